@@ -1,0 +1,6 @@
+pub mod Changes
+pub mod Faults
+pub mod Found
+pub mod Ordered
+pub mod Shifts
+pub mod Stored

@@ -1,0 +1,4 @@
+pub mod Figures
+pub mod Rows
+pub mod Seeking
+pub mod Tables
