@@ -1,0 +1,4 @@
+pub mod Division
+pub mod Euclid
+pub mod Common
+pub mod Rows
