@@ -60,6 +60,10 @@ pub congruent-divisor : (d n a b : ℕ) → Divides d n → Congruent n a b → 
 congruent-divisor d n a b h c =
     (c .0 * h .0, c .1 * h .0, omega (arith, c .2, ap (λ m. c .0 * m) (h .1), ap (λ m. c .1 * m) (h .1)))
 
+-- the other parts of two congruent sums
+pub congruent-rest : (n x y a b : ℕ) → Congruent n (x + a) (y + b) → Congruent n a b → Congruent n x y
+congruent-rest n x y a b h c = (h .0 + c .1, h .1 + c .0, omega (arith, h .2, c .2))
+
 -- two remainders that are congruent are equal
 pub congruent-below : (n a b : ℕ) → a < n → b < n → Congruent n a b → a ≡ b
 congruent-below n a b la lb c =

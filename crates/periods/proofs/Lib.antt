@@ -1,4 +1,6 @@
 pub mod Division
 pub mod Euclid
-pub mod Common
 pub mod Rows
+pub mod Common
+pub mod Starts
+pub mod Ranks
