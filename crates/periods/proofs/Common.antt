@@ -118,28 +118,3 @@ radices-times-multiple m (t ∷ ts) =
 
 pub choices-times-period : (ts : List ℕ) → ChoicesTimesPeriod ts
 choices-times-period ts = omega (arith, radices-times-multiple 1 ts)
-
--- m is the least common multiple of the first i periods, and what is left takes it to the common period
-pub record SoFar (ts : List ℕ) (i m : ℕ) : Type 0 where
-  pub pos : 1 ≤ m
-  pub within : m ≤ commonPeriod ts
-  pub rest : multiple m (drop i ts) ≡ commonPeriod ts
-
-pub so-far-none : (ts : List ℕ) → Proper ts → SoFar ts 0 1
-so-far-none ts proper = record { pos = omega arith; within = multiple-pos 1 ts (omega arith) proper; rest = refl }
-
-pub so-far-more :
-    (ts : List ℕ) (i m t l : ℕ) →
-    i < length ts → Proper ts → SoFar ts i m → t ≡ getD ts i 0 → l ≡ lcm m t → SoFar ts (i + 1) l
-so-far-more ts i m t l below proper h at is =
-    let pos : 1 ≤ l = rw (is, at) (lcm-pos m (getD ts i 0) (h .pos) (proper i below .0)) in
-    let rest : multiple l (drop (i + 1) ts) ≡ commonPeriod ts =
-    rw (is, at) (sym (at-drop-more (multiple m) ts i 0 below) ∙ h .rest) in
-    record {
-      pos = pos;
-      within = rw (← rest) (multiple-grows l (drop (i + 1) ts) pos (proper-rest ts (i + 1) proper));
-      rest = rest;
-    }
-
-pub so-far-all : (ts : List ℕ) (i m : ℕ) → length ts ≤ i → SoFar ts i m → m ≡ commonPeriod ts
-so-far-all ts i m past h = sym (at-drop-all (multiple m) ts i past) ∙ h .rest

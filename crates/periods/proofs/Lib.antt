@@ -4,3 +4,4 @@ pub mod Rows
 pub mod Common
 pub mod Starts
 pub mod Ranks
+pub mod Places

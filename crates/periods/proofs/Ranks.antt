@@ -45,7 +45,7 @@ listed-below-period ts ss q proper h k =
       divisor-le (getD (radices 1 ts) q 0) (getD ts q 0) (radix-divides 1 ts q k) (proper q k .0),
     )
 
-factor-pos : (a b n : ℕ) → n < a * b → 0 < b
+pub factor-pos : (a b n : ℕ) → n < a * b → 0 < b
 factor-pos a zero n h = omega arith
 factor-pos a (suc b) n h = omega arith
 

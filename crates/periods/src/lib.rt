@@ -4,8 +4,10 @@ ghost use mathlib.Core.Path.{_≡_};
 ghost use Rattle.periods.specs.Divisors.{gcd as gcdOf, GreatestCommonDivisor};
 ghost use Rattle.periods.specs.Multiples.{lcm as lcmOf, longestPeriod, longestCommonPeriod};
 
+mod list;
 mod row;
 
+pub use list::Choices;
 pub use row::Periods;
 
 // Tasks on one controller.
@@ -15,6 +17,9 @@ pub const MOST_TASKS: usize = 8;
 pub const LONGEST_PERIOD: u16 = 2_000;
 
 pub const LONGEST_COMMON_PERIOD: u32 = 10_000;
+
+// Listed choices that a search goes through.
+pub const MOST_CHOICES: u32 = 10_000;
 
 // Euclid's greatest common divisor. gcd(0, 0) is 0, which every number divides.
 pub fn gcd(a: u32, b: u32) -> u32

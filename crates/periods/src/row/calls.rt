@@ -1,11 +1,13 @@
+ghost use Prim.Native.Nat.{_≤_};
 ghost use mathlib.Core.Path.{_≡_};
 ghost use mathlib.Core.Bool.{cond};
 ghost use mathlib.Core.List.{[], _∷_, _++_};
 ghost use lib.Dec.{ltb};
+ghost use lib.ListN.{length};
 ghost use Rattle.std.specs.Orderings.{When};
 ghost use Rattle.std.specs.declared.option.Option.the-variants.{Some, None};
 ghost use Rattle.refusals.specs.Answers.{answer};
-ghost use Rattle.periods.specs.Multiples.{longestCommonPeriod, commonPeriod, periodRefusal, LeastCommonMultiple, Proper};
+ghost use Rattle.periods.specs.Multiples.{mostTasks, longestCommonPeriod, commonPeriod, periodRefusal, LeastCommonMultiple, Proper};
 ghost use Rattle.periods.specs.Rows.{periodsOf, takes};
 use crate::LONGEST_COMMON_PERIOD;
 use crate::LONGEST_PERIOD;
@@ -45,7 +47,15 @@ impl Periods {
         if self.count == 0 {
             return Err(Refusal::NoTask);
         }
-        common_multiple(&self.at[..self.count]).ok_or(Refusal::LongCommonPeriod)
+        common_multiple(self.as_slice()).ok_or(Refusal::LongCommonPeriod)
+    }
+
+    pub(crate) fn as_slice(&self) -> &[u16]
+        ensures value { λ r. ⌜ now r ≡ periodsOf (now (self .entry)) ⌝ }
+        ensures proper { λ r. ⌜ Proper (now r) ⌝ }
+        ensures few { λ r. ⌜ length (now r) ≤ mostTasks ⌝ }
+    {
+        &self.at[..self.count]
     }
 }
 
