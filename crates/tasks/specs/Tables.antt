@@ -2,7 +2,7 @@
 use Prim.Native.Nat.{ℕ}
 use mathlib.Core.Path.{_≡_}
 use mathlib.Core.Bool.{cond}
-use mathlib.Core.List.{List}
+use mathlib.Core.List.{List, map}
 use lib.Dec.{eqb}
 use lib.ListN.{take}
 use Rattle.std.specs.declared.option.Option.{Option}
@@ -18,6 +18,10 @@ use Rattle.tasks.specs.Rows.{figuresOf}
 -- the rows that stand
 abbrev pub rowsOf : Table → List Row
 rowsOf table = take (table .count) (table .rows)
+
+-- the figures of the tasks, in their places
+abbrev pub figuresIn : Table → List Figures
+figuresIn table = map (λ row. row .figures) (rowsOf table)
 
 -- a change: refused, and nothing is changed, or else done, and these rows stand
 abbrev pub Updated : Option Refusal → List Row → Table → Table → Result (Unit {0}) Refusal → Type 0

@@ -1,9 +1,8 @@
 // The figures of a task, and a row of them.
 ghost use mathlib.Core.Path.{_≡_};
 ghost use Rattle.tasks.specs.Figures.{breaks as breaksIt};
+use periods::LONGEST_PERIOD;
 use refusals::TaskFault;
-
-pub const LONGEST_PERIOD: u16 = 2000;
 
 // Every fault, in the order of their numbers.
 pub const FAULTS: [TaskFault; 4] = [

@@ -6,11 +6,10 @@ ghost use lib.ListN.{length, take};
 ghost use Rattle.periods.specs.Multiples.{mostTasks};
 ghost use Rattle.tasks.specs.Rows.{tidy as isTidy};
 use crate::figures::Row;
+use periods::MOST_TASKS;
 
 mod calls;
 mod rows;
-
-pub const MOST_TASKS: usize = 8;
 
 // At most eight tasks, with fair figures, in rising order of their ids.
 #[derive(Clone, Copy)]

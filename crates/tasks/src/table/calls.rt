@@ -6,20 +6,26 @@ ghost use lib.ListN.{length};
 ghost use Rattle.std.specs.Results.{Cases};
 ghost use Rattle.std.specs.declared.option.Option.the-variants.{Some, None};
 ghost use Rattle.std.specs.shelf.Lists.{All};
-ghost use Rattle.periods.specs.Multiples.{mostTasks};
+ghost use Rattle.periods.specs.Listed.{ChoicesTimesPeriod, OneListedChoice};
+ghost use Rattle.periods.specs.Lists.{ListsChoices};
+ghost use Rattle.periods.specs.Multiples.{mostTasks, commonPeriod, periodRefusal, LeastCommonMultiple};
+ghost use Rattle.periods.specs.Rows.{periodsOf};
 ghost use Rattle.refusals.specs.Answers.{answer};
 ghost use Rattle.tasks.specs.Figures.{Fair};
+ghost use Rattle.tasks.specs.Loads.{periodsIn, load as loadOf};
 ghost use Rattle.tasks.specs.Rows.{row, Rising, figuresOf, placeOf, idAt, entered, amended, struck, standingRefusal, unknownRefusal, enterRefusal, amendRefusal};
 ghost use Rattle.tasks.specs.Seeking.{StandsAt, BelongsAt};
-ghost use Rattle.tasks.specs.Tables.{rowsOf, Updated, OnlyAt};
+ghost use Rattle.tasks.specs.Tables.{rowsOf, figuresIn, Updated, OnlyAt};
 use crate::figures::Figures;
 use crate::figures::Row;
-use crate::table::MOST_TASKS;
 use crate::table::Table;
 use crate::table::rows::put_in;
 use crate::table::rows::seek;
 use crate::table::rows::take_out;
 use crate::task::Task;
+use periods::Choices;
+use periods::MOST_TASKS;
+use periods::Periods;
 use refusals::Refusal;
 use refusals::RefusalFromTaskFault;
 
@@ -156,5 +162,45 @@ impl Table {
         take_out(&mut self.rows[0..self.count], at);
         self.count -= 1;
         Ok(())
+    }
+
+    // The periods of the tasks, in their places.
+    pub fn periods(&self) -> Periods
+        ensures { λ r. ⌜ periodsOf r ≡ periodsIn (figuresIn (now (self .entry))) ⌝ }
+    {
+        let mut periods = Periods::new();
+        for row in self.rows() {
+            periods.add(row.figures.period);
+        }
+        periods
+    }
+
+    // The least common multiple of the periods.
+    pub fn common_period(&self) -> Result<u32, Refusal>
+        ensures value { λ r. ⌜ r ≡ answer (periodRefusal (periodsIn (figuresIn (now (self .entry))))) (commonPeriod (periodsIn (figuresIn (now (self .entry))))) ⌝ }
+        ensures least { λ _. ⌜ LeastCommonMultiple (periodsIn (figuresIn (now (self .entry)))) (commonPeriod (periodsIn (figuresIn (now (self .entry))))) ⌝ }
+    {
+        self.periods().common_period()
+    }
+
+    // The work that the tasks ask for in a common period.
+    pub fn load(&self) -> Result<u32, Refusal>
+        ensures { λ r. ⌜ r ≡ answer (periodRefusal (periodsIn (figuresIn (now (self .entry))))) (loadOf (figuresIn (now (self .entry)))) ⌝ }
+    {
+        let common = self.common_period()?;
+        let mut load = 0;
+        for row in self.rows() {
+            load += u32::from(row.figures.work) * (common / u32::from(row.figures.period));
+        }
+        Ok(load)
+    }
+
+    // The listed choices of starts: every choice of starts is related to exactly one of them.
+    pub fn choices(&self) -> Result<Choices, Refusal>
+        ensures value { λ r. ⌜ ListsChoices (periodsIn (figuresIn (now (self .entry)))) r ⌝ }
+        ensures one { λ _. ⌜ OneListedChoice (periodsIn (figuresIn (now (self .entry)))) ⌝ }
+        ensures number { λ _. ⌜ ChoicesTimesPeriod (periodsIn (figuresIn (now (self .entry)))) ⌝ }
+    {
+        self.periods().choices()
     }
 }
