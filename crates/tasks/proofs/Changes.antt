@@ -10,7 +10,7 @@ use Rattle.std.specs.declared.option.Option.the-variants.{Some, None}
 use Rattle.std.specs.shelf.Lists.{All}
 use Rattle.std.proofs.shelf.Ways.{tells}
 use Rattle.tasks.specs.declared.figures.Figures.{Figures}
-use Rattle.tasks.specs.declared.figures.Row.{Row}
+use Rattle.tasks.specs.declared.rows.Row.{Row}
 use Rattle.tasks.specs.Figures.{isFair}
 use Rattle.tasks.specs.Rows.{tidy, figuresOf, stands, placeOf, entered, amended, struck}
 

@@ -12,7 +12,7 @@ use Rattle.std.specs.shelf.Lists.{All, inserted, removed}
 use Rattle.std.proofs.shelf.Lists.{take-append-drop, set-split, length-take-le}
 use Rattle.std.proofs.shelf.Ways.{tells}
 use Rattle.refusals.specs.declared.Refusal.the-variants.{StandingId, UnknownId}
-use Rattle.tasks.specs.declared.figures.Row.{Row}
+use Rattle.tasks.specs.declared.rows.Row.{Row}
 use Rattle.tasks.specs.Rows.{figuresOf, stands, placeOf, entered, amended, struck, standingRefusal, unknownRefusal}
 use Rattle.tasks.specs.Seeking.{StandsAt, BelongsAt}
 use Rattle.tasks.proofs.Changes.{figuresOf-past, placeOf-past, struck-past, entered-past, amended-past}

@@ -5,3 +5,4 @@ pub mod Loads
 pub mod Ordered
 pub mod Shifts
 pub mod Stored
+pub mod Timely

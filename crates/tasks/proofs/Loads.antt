@@ -1,5 +1,5 @@
 -- Periods and load of rows, gathered row by row.
-use mathlib.Core.Path.{_≡_, _∙_, sym, ap}
+use mathlib.Core.Path.{_≡_, _∙_, sym, ap, ap₂}
 use mathlib.Core.Bool.{Bool, true}
 use mathlib.Core.List.{List, [], _∷_, _++_, map}
 use Prim.Native.Nat.{ℕ, _+_, _*_, _/_, _≤_, _<_}
@@ -34,20 +34,20 @@ work-fits f ticks fair =
 module _ {X : Type 0} (figures : X → Figures) (rows : List X) (i : ℕ) (d : X) (inside : i < length rows) where
   -- a fair row adds its period to those of the rows before it
   pub periods-more :
-      (before after : Periods) (r : Bool) → length rows ≤ mostTasks → All (λ row. Fair (figures row)) rows →
-      periodsOf before ≡ periodsIn (map figures (take i rows)) →
-      r ≡ takes (periodsOf before) (figures (getD rows i d) .period) →
-      When r (periodsOf after ≡ periodsOf before ++ figures (getD rows i d) .period ∷ []) (after ≡ before) →
+      (before after : Periods) (r : Bool) (period : ℕ) → length rows ≤ mostTasks → All (λ row. Fair (figures row)) rows →
+      periodsOf before ≡ periodsIn (map figures (take i rows)) → period ≡ figures (getD rows i d) .period →
+      r ≡ takes (periodsOf before) period → When r (periodsOf after ≡ periodsOf before ++ period ∷ []) (after ≡ before) →
       periodsOf after ≡ periodsIn (map figures (take (i + 1) rows))
-  periods-more before after r few fair gathered said added =
+  periods-more before after r period few fair gathered is said added =
       let task = figures (getD rows i d) in
-      let long : length (periodsIn (map figures (take i rows))) ≡ i =
-      length-map (map figures (take i rows)) (λ t. t .period) ∙ length-map (take i rows) figures ∙ length-take-le i rows (omega arith) in
-      let taken : r ≡ true =
-      said ∙ takes-fair (periodsOf before) task (all-getD (λ row. Fair (figures row)) rows i d inside fair) (omega (arith, ap length gathered)) in
-      when-true _ _ taken added
-      ∙ ap (λ ts. ts ++ task .period ∷ []) gathered
-      ∙ sym (map-push (λ t. t .period) (map figures (take i rows)) task)
+      let passed = map figures (take i rows) in
+      let long : length (periodsIn passed) ≡ i =
+      length-map passed (λ t. t .period) ∙ length-map (take i rows) figures ∙ length-take-le i rows (omega arith) in
+      let taken : takes (periodsOf before) period ≡ true =
+      rw is (takes-fair (periodsOf before) task (all-getD (λ row. Fair (figures row)) rows i d inside fair) (omega (arith, ap length gathered))) in
+      when-true _ _ (said ∙ taken) added
+      ∙ ap₂ (λ ts t. ts ++ t ∷ []) gathered is
+      ∙ sym (map-push (λ t. t .period) passed task)
       ∙ sym (ap periodsIn (map-more figures rows i d inside))
 
   -- the sum of the rows passed goes on; each adds no more than the ticks

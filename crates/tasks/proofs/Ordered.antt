@@ -11,7 +11,7 @@ use Rattle.std.specs.shelf.Lists.{All}
 use Rattle.std.proofs.shelf.Elements.{all-more}
 use Rattle.std.proofs.shelf.Lists.{drop-all}
 use Rattle.std.proofs.shelf.Ways.{tells}
-use Rattle.tasks.specs.declared.figures.Row.{Row}
+use Rattle.tasks.specs.declared.rows.Row.{Row}
 use Rattle.tasks.specs.Figures.{Fair}
 use Rattle.tasks.specs.Rows.{Rising, tidy, idAt}
 use Rattle.tasks.proofs.Faults.{fair-from-test}

@@ -8,7 +8,7 @@ use lib.ListN.{length, set, take}
 use lib.Seq.{take-set-lt}
 use Rattle.std.specs.shelf.Lists.{inserted, removed}
 use Rattle.std.proofs.shelf.Lists.{length-take-le, take-append-le, take-at, take-take}
-use Rattle.tasks.specs.declared.figures.Row.{Row}
+use Rattle.tasks.specs.declared.rows.Row.{Row}
 use Rattle.tasks.specs.Rows.{entered, amended, struck}
 use Rattle.tasks.specs.Seeking.{StandsAt, BelongsAt}
 use Rattle.tasks.proofs.Found.{struck-here, amended-here, entered-here}

@@ -12,7 +12,7 @@ use Rattle.refusals.specs.declared.Refusal.{Refusal}
 use Rattle.refusals.specs.declared.Refusal.the-variants.{ZeroId, StandingId, UnknownId, Figures as BadFigures, TooManyTasks}
 use Rattle.periods.specs.Multiples.{mostTasks}
 use Rattle.tasks.specs.declared.figures.Figures.{Figures}
-use Rattle.tasks.specs.declared.figures.Row.{Row}
+use Rattle.tasks.specs.declared.rows.Row.{Row}
 use Rattle.tasks.specs.Figures.{isFair, firstFault}
 
 abbrev pub row : ℕ → Figures → Row

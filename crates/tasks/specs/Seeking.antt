@@ -4,7 +4,7 @@ use mathlib.Core.Path.{_≡_}
 use mathlib.Core.List.{List}
 use lib.ListN.{length, take, drop}
 use Rattle.std.specs.shelf.Lists.{All, At}
-use Rattle.tasks.specs.declared.figures.Row.{Row}
+use Rattle.tasks.specs.declared.rows.Row.{Row}
 
 -- the id stands there, after the smaller ones
 pub record StandsAt (id : ℕ) (rows : List Row) (at : ℕ) : Type 0 where

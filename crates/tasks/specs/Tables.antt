@@ -11,7 +11,7 @@ use Rattle.std.specs.declared.result.Result.{Result}
 use Rattle.std.specs.declared.result.Result.the-variants.{Ok, Err}
 use Rattle.refusals.specs.declared.Refusal.{Refusal}
 use Rattle.tasks.specs.declared.figures.Figures.{Figures}
-use Rattle.tasks.specs.declared.figures.Row.{Row}
+use Rattle.tasks.specs.declared.rows.Row.{Row}
 use Rattle.tasks.specs.declared.table.Table.{Table}
 use Rattle.tasks.specs.Rows.{figuresOf}
 

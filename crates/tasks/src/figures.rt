@@ -1,4 +1,4 @@
-// The figures of a task, and a row of them.
+// The figures of a task.
 ghost use mathlib.Core.Path.{_≡_};
 ghost use Rattle.tasks.specs.Figures.{breaks as breaksIt};
 use periods::LONGEST_PERIOD;
@@ -32,11 +32,4 @@ impl Figures {
             TaskFault::LongWork => self.work > self.deadline,
         }
     }
-}
-
-// A row of a table: the figures of the task with this id.
-#[derive(Clone, Copy, PartialEq, Eq, Debug)]
-pub struct Row {
-    pub id: u8,
-    pub figures: Figures,
 }

@@ -5,11 +5,11 @@ ghost use Prim.Native.Nat.{_≤_};
 ghost use lib.ListN.{length, take};
 ghost use Rattle.periods.specs.Multiples.{mostTasks};
 ghost use Rattle.tasks.specs.Rows.{tidy as isTidy};
-use crate::figures::Row;
+use crate::rows::Row;
 use periods::MOST_TASKS;
 
 mod calls;
-mod rows;
+mod order;
 
 // At most eight tasks, with fair figures, in rising order of their ids.
 #[derive(Clone, Copy)]

@@ -17,11 +17,13 @@ ghost use Rattle.tasks.specs.Rows.{row, Rising, figuresOf, placeOf, idAt, ente
 ghost use Rattle.tasks.specs.Seeking.{StandsAt, BelongsAt};
 ghost use Rattle.tasks.specs.Tables.{rowsOf, figuresIn, Updated, OnlyAt};
 use crate::figures::Figures;
-use crate::figures::Row;
+use crate::rows::Row;
+use crate::rows::RowHasFigures;
+use crate::rows::periods_of;
 use crate::table::Table;
-use crate::table::rows::put_in;
-use crate::table::rows::seek;
-use crate::table::rows::take_out;
+use crate::table::order::put_in;
+use crate::table::order::seek;
+use crate::table::order::take_out;
 use crate::task::Task;
 use periods::Choices;
 use periods::MOST_TASKS;
@@ -168,11 +170,7 @@ impl Table {
     pub fn periods(&self) -> Periods
         ensures { λ r. ⌜ periodsOf r ≡ periodsIn (figuresIn (now (self .entry))) ⌝ }
     {
-        let mut periods = Periods::new();
-        for row in self.rows() {
-            periods.add(row.figures.period);
-        }
-        periods
+        periods_of(self.rows())
     }
 
     // The least common multiple of the periods.

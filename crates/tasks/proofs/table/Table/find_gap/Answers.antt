@@ -1,7 +1,7 @@
 use mathlib.Core.Path.{subst}
 use mathlib.Core.List.{List}
 use Rattle.tasks.specs.Seeking.{StandsAt, BelongsAt}
-use Rattle.tasks.specs.declared.figures.Row.{Row}
+use Rattle.tasks.specs.declared.rows.Row.{Row}
 use Rattle.tasks.proofs.Found.{standing, free}
 use Rattle.tasks.proofs.table.Table.find_gap.Needs as need
 

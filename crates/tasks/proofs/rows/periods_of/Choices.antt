@@ -3,8 +3,8 @@ use mathlib.Core.List.{map}
 use lib.ListN.{take}
 use Rattle.periods.specs.Rows.{periodsOf}
 use Rattle.tasks.specs.Loads.{periodsIn}
-use Rattle.tasks.proofs.table.Table.periods.Given as given
+use Rattle.tasks.proofs.rows.periods_of.Given as given
 
 -- the periods of the rows passed
 abbrev pub Inv-loop-row : given.InvT-loop-row
-Inv-loop-row l = periodsOf (l .periods) ≡ periodsIn (map (λ row. row .figures) (take (l .row-index) (l .row-items)))
+Inv-loop-row g l = periodsOf (l .periods) ≡ periodsIn (map (g .R·HasFigures .has) (take (l .row-index) (l .rows)))

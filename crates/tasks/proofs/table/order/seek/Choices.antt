@@ -1,7 +1,7 @@
 use Prim.Native.Nat.{_<_}
 use lib.ListN.{take}
 use Rattle.std.specs.shelf.Lists.{All}
-use Rattle.tasks.proofs.table.rows.seek.Given as given
+use Rattle.tasks.proofs.table.order.seek.Given as given
 
 -- the ids passed are smaller
 abbrev pub Inv-loop-i : given.InvT-loop-i

@@ -7,7 +7,7 @@ ghost use Rattle.std.specs.Results.{Cases};
 ghost use Rattle.std.specs.shelf.Lists.{inserted, removed};
 ghost use Rattle.tasks.specs.Rows.{tidy};
 ghost use Rattle.tasks.specs.Seeking.{StandsAt, BelongsAt};
-use crate::figures::Row;
+use crate::rows::Row;
 
 // Where the id stands, or else where it belongs.
 pub fn seek(rows: &[Row], id: u8) -> Result<usize, usize>

@@ -2,7 +2,7 @@ use mathlib.Core.Path.{ap, _∙_}
 use native.Mathlib.Omega.{arith}
 use Rattle.std.proofs.shelf.Lists.{getD-default}
 use Rattle.tasks.proofs.Ordered.{greater-from, passed-more, passed-all}
-use Rattle.tasks.proofs.table.rows.seek.Needs as need
+use Rattle.tasks.proofs.table.order.seek.Needs as need
 
 pub returns-then-row-id : need.returns-then-row-id
 returns-then-row-id c =

@@ -1,0 +1,117 @@
+-- Tasks with their starts: what the tests of a case say.
+use mathlib.Core.Path.{_≡_, _∙_, sym, ap, refl}
+use mathlib.Core.Bool.{Bool, true, false}
+use mathlib.Core.List.{List, [], _∷_}
+use Prim.Native.Nat.{ℕ, _+_, _≤_, _<_}
+use native.Mathlib.Omega.{arith}
+use lib.Dec.{ltb}
+use lib.ListN.{length, getD, drop, length-map}
+use Rattle.std.specs.Options.{mapped}
+use Rattle.std.specs.declared.option.Option.{Option}
+use Rattle.std.specs.declared.option.Option.the-variants.{Some, None}
+use Rattle.std.specs.declared.result.Result.{Result}
+use Rattle.std.specs.declared.result.Result.the-variants.{Ok, Err}
+use Rattle.std.specs.shelf.Lists.{All}
+use Rattle.std.proofs.shelf.Lists.{at-drop-more, at-drop-all}
+use Rattle.std.proofs.shelf.Tests.{ltb-false, le-ltb}
+use Rattle.std.proofs.shelf.Ways.{tells}
+use Rattle.refusals.specs.Answers.{answer, orElse, refuseIf}
+use Rattle.refusals.specs.declared.Refusal.{Refusal}
+use Rattle.refusals.specs.declared.Refusal.the-variants.{Figures as BadFigures, TooManyTasks, LateStart}
+use Rattle.refusals.specs.declared.TaskFault.{TaskFault}
+use Rattle.periods.specs.Multiples.{mostTasks, longestCommonPeriod, commonPeriod, periodRefusal}
+use Rattle.tasks.specs.declared.rows.Timed.{Timed}
+use Rattle.tasks.specs.Figures.{Fair, breaks, faults, firstOf, firstFault}
+use Rattle.tasks.specs.Loads.{periodsIn}
+use Rattle.tasks.specs.Timed.{Sound, areTimely, anyRow, firstFaultIn, startsLate, figuresGiven, caseRefusal}
+use Rattle.tasks.proofs.Faults.{fair-from-none, none-from-fair, fair-from-test, test-from-fair}
+
+-- the search for a row that passes a test
+module _ (test : Timed → Bool) (rows : List Timed) (i : ℕ) (d : Timed) where
+  pub any-here : i < length rows → test (getD rows i d) ≡ true → anyRow test (drop i rows) ≡ true
+  any-here inside here = at-drop-more (anyRow test) rows i d inside ∙ grind (arith, tells)
+
+  pub any-later : i < length rows → test (getD rows i d) ≡ false → anyRow test (drop i rows) ≡ anyRow test (drop (i + 1) rows)
+  any-later inside absent = at-drop-more (anyRow test) rows i d inside ∙ grind (arith, tells)
+
+pub fair-from-no-fault : (rows : List Timed) → firstFaultIn rows ≡ None → All (λ row. Fair (row .figures)) rows
+unfolding firstFaultIn
+fair-from-no-fault [] none = tt
+fair-from-no-fault (row ∷ rows) none =
+    (grind (arith, tells), fair-from-no-fault rows (grind (arith, tells)))
+
+no-fault-from-fair : (rows : List Timed) → All (λ row. Fair (row .figures)) rows → firstFaultIn rows ≡ None
+unfolding firstFaultIn firstFault
+no-fault-from-fair [] fair = refl
+no-fault-from-fair (row ∷ rows) fair =
+    let ih = no-fault-from-fair rows (fair .1) in
+    let none = none-from-fair (row .figures) (fair .0) in grind (arith, tells)
+
+timely-from-none-late : (rows : List Timed) → anyRow startsLate rows ≡ false → All (λ row. row .start < row .figures .period) rows
+timely-from-none-late [] none = tt
+timely-from-none-late (row ∷ rows) none =
+    (grind (arith, tells), timely-from-none-late rows (grind (arith, tells)))
+
+none-late-from-timely : (rows : List Timed) → All (λ row. row .start < row .figures .period) rows → anyRow startsLate rows ≡ false
+none-late-from-timely [] timely = refl
+none-late-from-timely (row ∷ rows) timely = let ih = none-late-from-timely rows (timely .1) in grind (arith, tells)
+
+pub fair-from-test-all : (rows : List Timed) → areTimely rows ≡ true → All (λ row. Fair (row .figures)) rows
+fair-from-test-all [] test = tt
+fair-from-test-all (row ∷ rows) test =
+    (fair-from-test (row .figures) (grind (arith, tells)), fair-from-test-all rows (grind (arith, tells)))
+
+pub timely-from-test-all : (rows : List Timed) → areTimely rows ≡ true → All (λ row. row .start < row .figures .period) rows
+timely-from-test-all [] test = tt
+timely-from-test-all (row ∷ rows) test =
+    (grind (arith, tells), timely-from-test-all rows (grind (arith, tells)))
+
+pub test-from-sound : (rows : List Timed) → All (λ row. Fair (row .figures)) rows → All (λ row. row .start < row .figures .period) rows → areTimely rows ≡ true
+test-from-sound [] fair timely = refl
+test-from-sound (row ∷ rows) fair timely =
+    let ih = test-from-sound rows (fair .1) (timely .1) in
+    let test = test-from-fair (row .figures) (fair .0) in grind (arith, tells)
+
+-- nothing is refused only where each condition fails
+parts :
+    (fault : Option TaskFault) (many late : Bool) (period : Option Refusal) →
+    orElse (mapped BadFigures fault) (orElse (refuseIf many TooManyTasks) (orElse period (refuseIf late LateStart))) ≡ None →
+    (fault ≡ None) × (many ≡ false) × (period ≡ None) × (late ≡ false)
+parts fault many late period none = (grind arith, grind arith, grind arith, grind arith)
+
+period-none : (ts : List ℕ) → periodRefusal ts ≡ None → (1 ≤ length ts) × (commonPeriod ts ≤ longestCommonPeriod)
+period-none ts none = (grind (arith, tells), grind (arith, tells))
+
+none-period : (ts : List ℕ) → 1 ≤ length ts → commonPeriod ts ≤ longestCommonPeriod → periodRefusal ts ≡ None
+none-period ts some short = grind (arith, tells)
+
+length-periods : (rows : List Timed) → length (periodsIn (figuresGiven rows)) ≡ length rows
+length-periods rows = length-map (figuresGiven rows) (λ task. task .period) ∙ length-map rows (λ row. row .figures)
+
+-- no refusal exactly where the rows are sound
+pub sound-from-none : (rows : List Timed) → caseRefusal rows ≡ None → Sound rows
+sound-from-none rows none =
+    let passed = parts (firstFaultIn rows) (ltb mostTasks (length rows)) (anyRow startsLate rows) (periodRefusal (periodsIn (figuresGiven rows))) none in
+    let period = period-none (periodsIn (figuresGiven rows)) (passed .2) in
+    record {
+      some = omega (arith, period .0, length-periods rows);
+      few = ltb-false mostTasks (length rows) (passed .1);
+      fair = fair-from-no-fault rows (passed .0);
+      timely = timely-from-none-late rows (passed .3);
+      short = period .1;
+    }
+
+pub none-from-sound : (rows : List Timed) → Sound rows → caseRefusal rows ≡ None
+none-from-sound rows sound =
+    rw (
+      no-fault-from-fair rows (sound .fair),
+      le-ltb mostTasks (length rows) (sound .few),
+      none-period (periodsIn (figuresGiven rows)) (omega (arith, sound .some, length-periods rows)) (sound .short),
+      none-late-from-timely rows (sound .timely),
+    )
+
+pub none-from-ok : (o : Option Refusal) → _≡_ {A = Result (Unit {0}) Refusal} (Ok tt) (answer o tt) → o ≡ None
+none-from-ok o ok = grind arith
+
+pub some-from-err : (o : Option Refusal) (refusal : Refusal) → _≡_ {A = Result (Unit {0}) Refusal} (Err refusal) (answer o tt) → o ≡ Some refusal
+some-from-err o refusal err = grind arith
