@@ -6,6 +6,8 @@ ghost use Rattle.periods.specs.Multiples.{lcm as lcmOf, longestPeriod, longest
 
 mod list;
 mod row;
+#[cfg(test)]
+mod tests;
 
 pub use list::Choices;
 pub use row::Periods;
