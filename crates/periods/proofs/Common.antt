@@ -3,15 +3,12 @@ use Prim.Native.Nat.{ℕ, zero, suc, _+_, _-_, _*_, _/_, _≤_, _<_}
 use native.Mathlib.Nat.{eq-of-mul-eq-mul-right, mul-pos}
 use native.Mathlib.Decide.{decLe}
 use native.Mathlib.Omega.{arith}
-use mathlib.Core.Path.{_≡_, refl, sym, _∙_, ap, subst}
+use mathlib.Core.Path.{_≡_, refl, ap, subst}
 use mathlib.Core.List.{List, [], _∷_}
-use lib.ListN.{length, getD, drop}
-use Rattle.std.proofs.shelf.Lists.{at-drop-more, at-drop-all}
 use Rattle.periods.specs.Divisors.{Divides, gcd}
 use Rattle.periods.specs.Multiples.{lcm, multiple, commonPeriod, CommonMultiple, LeastCommonMultiple, Proper}
 use Rattle.periods.specs.Listed.{radices, product, ChoicesTimesPeriod}
-use Rattle.periods.proofs.Division.{Congruent, divides-self, divides-zero, divides-trans, divides-times, divides-rest, divisor-le, divisor-pos, quotient-times, congruent-sym, congruent-difference}
-use Rattle.periods.proofs.Rows.{proper-rest}
+use Rattle.periods.proofs.Division.{Congruent, divides-self, divides-zero, divides-trans, divides-rest, divisor-le, divisor-pos, quotient-times, congruent-sym, congruent-difference}
 use Rattle.periods.proofs.Euclid.{gcd-greatest, gcd-difference, gcd-comm, gcd-pos}
 
 pub lcm-gcd : (a b : ℕ) → lcm a b * gcd a b ≡ a * b

@@ -46,8 +46,7 @@ divides-antisym (suc m) (suc n) h k =
 -- the cofactor is the quotient
 pub quotient-times : (d n : ℕ) → Divides d n → n / d * d ≡ n
 quotient-times zero n h = omega (arith, h .1)
-quotient-times (suc d) n h =
-    omega (arith, h .1, div-eq-of-eq-mul-left {n = suc d} {m = n} (omega arith) (h .1), ap (λ q. q * suc d) (div-eq-of-eq-mul-left {n = suc d} {m = n} (omega arith) (h .1)))
+quotient-times (suc d) n h = ap (λ q. q * suc d) (div-eq-of-eq-mul-left (omega arith) (h .1)) ∙ sym (h .1)
 
 -- a and b differ by a multiple of n: the multiples stand on both sides, so that no difference is needed
 abbrev pub Congruent : ℕ → ℕ → ℕ → Type 0

@@ -1,8 +1,8 @@
 -- Euclid's rule gives the greatest common divisor, and writes it as a difference of multiples.
-use Prim.Native.Nat.{ℕ, zero, suc, _+_, _-_, _*_, _/_, _%_, _≤_, _<_}
+use Prim.Native.Nat.{ℕ, zero, suc, _+_, _*_, _/_, _%_, _≤_, _<_}
 use native.Mathlib.Nat.{div-add-mod'}
 use native.Mathlib.Omega.{arith}
-use mathlib.Core.Path.{_≡_, refl, sym, ap, subst}
+use mathlib.Core.Path.{_≡_, refl, ap, subst}
 use Rattle.periods.specs.Divisors.{Divides, euclid, gcd, GreatestCommonDivisor}
 use Rattle.periods.proofs.Division.{divides-self, divides-zero, divides-sum, divides-rest, divides-times, divides-antisym, divisor-pos}
 
@@ -28,13 +28,17 @@ gcd-step a zero h = absurd (omega arith)
 gcd-step a (suc b) h = enough b (a % suc b) (suc b) (a % suc b) (omega arith) (omega arith)
 
 -- what holds of a and 0, and of a and b when it holds of b and the remainder, holds of all a and b
-by-euclid : (P : ℕ → ℕ → ℕ → Type 0) → ((a : ℕ) → P a 0 a) → ((a b g : ℕ) → 0 < b → P b (a % b) g → P a b g) → (steps a b : ℕ) → b ≤ steps → P a b (euclid steps a b)
-unfolding euclid
-by-euclid P start step zero a zero h = start a
-by-euclid P start step zero a (suc b) h = absurd (omega arith)
-by-euclid P start step (suc steps) a zero h = start a
-by-euclid P start step (suc steps) a (suc b) h =
-    step a (suc b) _ (omega arith) (by-euclid P start step steps (suc b) (a % suc b) (omega arith))
+module _ (P : ℕ → ℕ → ℕ → Type 0) (start : (a : ℕ) → P a 0 a) (step : (a b g : ℕ) → 0 < b → P b (a % b) g → P a b g) where
+  by-steps : (steps a b : ℕ) → b ≤ steps → P a b (euclid steps a b)
+  unfolding euclid
+  by-steps zero a zero h = start a
+  by-steps zero a (suc b) h = absurd (omega arith)
+  by-steps (suc steps) a zero h = start a
+  by-steps (suc steps) a (suc b) h = step a (suc b) _ (omega arith) (by-steps steps (suc b) (a % suc b) (omega arith))
+
+  by-euclid : (a b : ℕ) → P a b (gcd a b)
+  unfolding gcd
+  by-euclid a b = by-steps b a b (omega arith)
 
 -- a divisor of b divides a exactly when it divides the remainder
 divides-remainder : (d a b : ℕ) → Divides d a → Divides d b → Divides d (a % b)
@@ -46,8 +50,7 @@ divides-dividend d a b h k =
     subst (Divides d) (omega arith) (divides-sum d (a / b * b) (a % b) (divides-times d (a / b) b k) h)
 
 pub gcd-greatest : (a b : ℕ) → GreatestCommonDivisor a b (gcd a b)
-unfolding gcd
-gcd-greatest a b =
+gcd-greatest =
     by-euclid GreatestCommonDivisor
     (λ a. record { divides-first = divides-self a; divides-second = divides-zero a; greatest = λ d h k. h })
     (λ a b g pos ih.
@@ -56,7 +59,6 @@ gcd-greatest a b =
       divides-second = ih .divides-first;
       greatest = λ d h k. ih .greatest d k (divides-remainder d a b h k);
     })
-    b a b (omega arith)
 
 -- g as a difference of multiples of b and a, turned into one of multiples of a and b
 exchange :
@@ -78,9 +80,7 @@ difference-step (suc a) (suc b) g pos-b ih pos-a =
 
 -- Bezout's identity
 pub gcd-difference : (a b : ℕ) → 0 < a → (x : ℕ) × (y : ℕ) × (a * x ≡ gcd a b + b * y)
-unfolding gcd
-gcd-difference a b =
-    by-euclid Difference (λ a pos. (1, 0, omega arith)) difference-step b a b (omega arith)
+gcd-difference = by-euclid Difference (λ a pos. (1, 0, omega arith)) difference-step
 
 pub gcd-comm : (a b : ℕ) → gcd a b ≡ gcd b a
 gcd-comm a b =

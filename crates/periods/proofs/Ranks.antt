@@ -1,16 +1,17 @@
 -- The digits of a rank: a listed choice for each rank, in the order of a dictionary.
-use Prim.Native.Nat.{ℕ, zero, suc, _+_, _*_, _/_, _%_, _≤_, _<_}
+use Prim.Native.Nat.{ℕ, zero, suc, _+_, _-_, _*_, _/_, _%_, _<_}
 use native.Mathlib.Nat.{mod-lt, mul-le-mul-left}
 use native.Mathlib.Decide.{decLt}
 use native.Mathlib.Omega.{arith}
-use mathlib.Core.Path.{_≡_, refl, sym, _∙_, ap, ap₂}
-use mathlib.Core.List.{List, [], _∷_}
+use mathlib.Core.Path.{_≡_, refl, _∙_, ap, ap₂}
+use mathlib.Core.List.{List, [], _∷_, _++_}
 use mathlib.Core.Logic.{inl, inr}
-use lib.ListN.{length, getD}
+use lib.ListN.{length, getD, replicate}
 use Rattle.std.proofs.shelf.Bits.{div-below, mul-add-lt, div-mul-add, mod-mul-add}
-use Rattle.periods.specs.Divisors.{Divides, gcd}
-use Rattle.periods.specs.Multiples.{lcm, Proper}
+use Rattle.periods.specs.Divisors.{Divides}
+use Rattle.periods.specs.Multiples.{lcm, mostTasks, Proper}
 use Rattle.periods.specs.Listed.{Below, Listed, Before, radices, product, digits, startOf, RanksListTheChoices}
+use Rattle.periods.specs.Lists.{inPlaces}
 use Rattle.periods.proofs.Division.{divisor-le}
 use Rattle.periods.proofs.Euclid.{gcd-greatest}
 
@@ -35,6 +36,17 @@ below-at (g ∷ gs) [] q h k = absurd h
 below-at (g ∷ gs) (s ∷ ss) zero h k = h .0
 below-at (g ∷ gs) (s ∷ ss) (suc q) h k = below-at gs ss q (h .1) (omega arith)
 
+-- the places without a task have start 0
+pub in-places-at : (ss : List ℕ) (q : ℕ) → startOf (inPlaces ss) q ≡ startOf ss q
+in-places-at ss q = zeros-at ss (mostTasks - length ss) q
+  where
+    zeros-at : (xs : List ℕ) (n i : ℕ) → getD (xs ++ replicate n 0) i 0 ≡ getD xs i 0
+    zeros-at [] zero i = refl
+    zeros-at [] (suc n) zero = refl
+    zeros-at [] (suc n) (suc i) = zeros-at [] n i
+    zeros-at (x ∷ xs) n zero = refl
+    zeros-at (x ∷ xs) n (suc i) = zeros-at xs n i
+
 -- a listed start is below its period
 pub listed-below-period :
     (ts ss : List ℕ) (q : ℕ) → Proper ts → Listed ts ss → q < length ts → startOf ss q < getD ts q 0
@@ -48,6 +60,10 @@ listed-below-period ts ss q proper h k =
 pub factor-pos : (a b n : ℕ) → n < a * b → 0 < b
 factor-pos a zero n h = omega arith
 factor-pos a (suc b) n h = omega arith
+
+pub length-digits : (gs : List ℕ) (rank : ℕ) → length (digits gs rank) ≡ length gs
+length-digits [] rank = refl
+length-digits (g ∷ gs) rank = ap suc (length-digits gs (rank % product gs))
 
 digits-below : (gs : List ℕ) (rank : ℕ) → rank < product gs → Below gs (digits gs rank)
 digits-below [] rank h = tt
@@ -86,7 +102,8 @@ digits-rise (g ∷ gs) r r′ h k =
     elim (decLt (r / p) (r′ / p)) [
       | yes lt ↦ inl lt
       | no ge ↦
-          let e : r / p ≡ r′ / p = elim (decLt (r′ / p) (r / p)) [ yes gt ↦ omega (arith, mul-le-mul-left p gt) | no le ↦ omega arith ] in
+          let e : r / p ≡ r′ / p =
+          elim (decLt (r′ / p) (r / p)) [ yes gt ↦ omega (arith, mul-le-mul-left p gt) | no le ↦ omega arith ] in
           inr (e, digits-rise gs (r % p) (r′ % p) (omega (arith, ap (λ n. p * n) e)) (mod-lt r′ pos))
     ]
 

@@ -1,10 +1,10 @@
 -- Proper periods, one by one.
 use Prim.Native.Nat.{ℕ, zero, suc, _+_, _≤_, _<_}
 use native.Mathlib.Omega.{arith}
-use mathlib.Core.Path.{_≡_, sym, subst}
+use mathlib.Core.Path.{sym, subst}
 use mathlib.Core.List.{List, [], _∷_, _++_}
-use lib.ListN.{length, getD, set, take, drop, length-drop}
-use Rattle.std.proofs.shelf.Lists.{take-more-set, getD-drop}
+use lib.ListN.{length, set, take, drop}
+use Rattle.std.proofs.shelf.Lists.{take-more-set}
 use Rattle.periods.specs.Multiples.{longestPeriod, Proper}
 
 proper-push : (ts : List ℕ) (t : ℕ) → Proper ts → 1 ≤ t → t ≤ longestPeriod → Proper (ts ++ t ∷ [])

@@ -1,13 +1,13 @@
 -- Every choice of starts is related to exactly one listed choice.
-use Prim.Native.Nat.{ℕ, zero, suc, _+_, _*_, _/_, _%_, _≤_, _<_}
+use Prim.Native.Nat.{ℕ, zero, suc, _+_, _*_, _/_, _%_, _<_}
 use native.Mathlib.Nat.{mod-lt}
 use native.Mathlib.Omega.{arith}
-use mathlib.Core.Path.{_≡_, refl, sym, _∙_, ap, ap₂, subst}
+use mathlib.Core.Path.{_≡_, refl, sym, ap, ap₂}
 use mathlib.Core.List.{List, [], _∷_}
 use lib.ListN.{length, getD}
 use Rattle.periods.specs.Divisors.{Divides, gcd}
 use Rattle.periods.specs.Multiples.{lcm, Proper}
-use Rattle.periods.specs.Listed.{Related, Below, Listed, radices, startOf, OneListedChoice}
+use Rattle.periods.specs.Listed.{Related, Below, radices, startOf, OneListedChoice}
 use Rattle.periods.proofs.Division.{Congruent, divides-sum, divides-trans, congruent-divisor, congruent-rest, congruent-below}
 use Rattle.periods.proofs.Euclid.{gcd-greatest, gcd-difference, gcd-pos}
 use Rattle.periods.proofs.Common.{divides-lcm-first, divides-lcm-second, lcm-congruent}
@@ -40,8 +40,9 @@ record Reduced (m : ℕ) (ts : List ℕ) (s : ℕ → ℕ) : Type 0 where
   periods : ℕ → ℕ
   same : (q : ℕ) → q < length ts → s q + put-off ≡ startOf starts q + periods q * getD ts q 0
 
--- At each task the start is brought below its radix g by a multiple of m, which g divides up to whole periods.
--- What later tasks are put off by is a multiple of this period too, and so leaves this start as it is.
+-- A start is its remainder by the radix g and j times g. By Bezout g and some multiple of m make whole periods:
+-- with all starts put off by j such multiples, the remainder and whole periods are left.
+-- What later tasks are put off by is a multiple of this period too, and changes nothing here.
 reduce : (m : ℕ) (ts : List ℕ) (s : ℕ → ℕ) → Proper ts → Reduced m ts s
 reduce m [] s proper = record {
   put-off = 0;
@@ -67,7 +68,11 @@ reduce m (t ∷ ts) s proper =
       starts = s 0 % g ∷ later .starts;
       below = (mod-lt (s 0) (gcd-pos t m pos), later .below);
       periods = elim [ zero ↦ y * j + whole .0 | suc q ↦ later .periods q ];
-      same = elim [ zero ↦ (λ h. omega (arith, whole .1, ap (λ n. n * j) e)) | suc q ↦ (λ h. omega (arith, later .same q (omega arith))) ];
+      same =
+          elim [
+            | zero ↦ (λ h. omega (arith, whole .1, ap (λ n. n * j) e))
+            | suc q ↦ (λ h. omega (arith, later .same q (omega arith)))
+          ];
     }
 
 -- two lists of starts below the radices are equal if they agree up to whole periods and two numbers
@@ -108,7 +113,8 @@ one-listed-choice ts proper s =
       found .below,
       related,
       λ other listed h.
-          let both = related-trans ts (startOf other) s (startOf (found .starts)) (related-sym ts s (startOf other) h) related in
+          let back = related-sym ts s (startOf other) h in
+          let both = related-trans ts (startOf other) s (startOf (found .starts)) back related in
           same-starts 1 ts other (found .starts) (both .ahead) (both .behind) listed (found .below)
           (both .behind, both .ahead, omega arith) (λ q below. (both .more q, both .fewer q, both .same q below)),
     )

@@ -1,14 +1,17 @@
 -- What a list of choices holds.
 use Prim.Native.Nat.{ℕ, _-_}
 use mathlib.Core.Path.{_≡_}
+use mathlib.Core.Bool.{cond}
 use mathlib.Core.List.{List, _++_}
+use lib.Dec.{ltb}
 use lib.ListN.{length, replicate}
+use Rattle.std.specs.declared.option.Option.{Option}
 use Rattle.std.specs.declared.option.Option.the-variants.{Some, None}
 use Rattle.std.specs.declared.result.Result.{Result}
 use Rattle.std.specs.declared.result.Result.the-variants.{Ok, Err}
 use Rattle.refusals.specs.declared.Refusal.{Refusal}
 use Rattle.periods.specs.declared.list.Choices.{Choices}
-use Rattle.periods.specs.Listed.{choicesRefusal}
+use Rattle.periods.specs.Listed.{choiceOf, numberOfChoices, choicesRefusal}
 use Rattle.periods.specs.Multiples.{mostTasks}
 use Rattle.periods.specs.Rows.{periodsOf}
 
@@ -23,3 +26,7 @@ ListsChoices ts (Err refusal) = choicesRefusal ts ≡ Some refusal
 -- starts by place, with 0 in the places without a task
 abbrev pub inPlaces : List ℕ → List ℕ
 inPlaces ss = ss ++ replicate (mostTasks - length ss) 0
+
+-- the starts of a rank, counted from 0, or none past the last choice
+abbrev pub startsOf : List ℕ → ℕ → Option (List ℕ)
+startsOf ts rank = cond (ltb rank (numberOfChoices ts)) (Some (inPlaces (choiceOf ts rank))) None

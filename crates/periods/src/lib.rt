@@ -6,19 +6,21 @@ ghost use Rattle.periods.specs.Multiples.{lcm as lcmOf, longestPeriod, longest
 
 mod list;
 mod row;
+#[cfg(test)]
+mod tests;
 
 pub use list::Choices;
 pub use row::Periods;
 
-// Tasks on one controller.
+// The most tasks on one controller.
 pub const MOST_TASKS: usize = 8;
 
-// Ticks of a period, and of a common period.
+// The most ticks of a period, and of a common period.
 pub const LONGEST_PERIOD: u16 = 2_000;
 
 pub const LONGEST_COMMON_PERIOD: u32 = 10_000;
 
-// Listed choices that a search goes through.
+// The most listed choices that a search goes through.
 pub const MOST_CHOICES: u32 = 10_000;
 
 // Euclid's greatest common divisor. gcd(0, 0) is 0, which every number divides.

@@ -6,7 +6,7 @@ use crate::MOST_TASKS;
 
 mod calls;
 
-// The periods of some tasks, in their places: the first `count` of `at`.
+// The periods of some tasks, in their places: the first `count` of `at`, each from 1 to LONGEST_PERIOD.
 #[derive(Clone, Copy)]
 pub struct Periods {
     at: [u16; MOST_TASKS],

@@ -10,7 +10,11 @@ of-value : (a b r : ℕ) → r ≡ gcd a b → record { value : r ≡ gcd a b; g
 of-value a b r e = record { value = e; greatest = subst (GreatestCommonDivisor a b) (sym e) (gcd-greatest a b) }
 
 pub returns-then-b-eq0 : need.returns-then-b-eq0
-returns-then-b-eq0 t c = of-value (c .args .a) (c .args .b) (c .args .a) (sym (ap (gcd (c .args .a)) (c .if-b-eq0 .taken) ∙ gcd-zero (c .args .a)))
+returns-then-b-eq0 t c =
+    let a = c .args .a in
+    of-value a (c .args .b) a (sym (ap (gcd a) (c .if-b-eq0 .taken) ∙ gcd-zero a))
 
 pub returns-else-b-eq0 : need.returns-else-b-eq0
-returns-else-b-eq0 t c = of-value (c .args .a) (c .args .b) (c .gcd .result) (c .gcd .ensures .value ∙ sym (gcd-step (c .args .a) (c .args .b) (omega arith)))
+returns-else-b-eq0 t c =
+    let step = gcd-step (c .args .a) (c .args .b) (omega arith) in
+    of-value (c .args .a) (c .args .b) (c .gcd .result) (c .gcd .ensures .value ∙ sym step)

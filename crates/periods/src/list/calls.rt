@@ -1,10 +1,7 @@
-ghost use Prim.Native.Nat.{_<_};
+ghost use Prim.Native.Nat.{_≤_};
 ghost use mathlib.Core.Path.{_≡_};
-ghost use mathlib.Core.Bool.{cond};
-ghost use lib.Dec.{ltb};
-ghost use Rattle.std.specs.declared.option.Option.the-variants.{Some, None};
-ghost use Rattle.periods.specs.Listed.{choiceOf, numberOfChoices, ChoicesTimesPeriod, OneListedChoice, RanksListTheChoices};
-ghost use Rattle.periods.specs.Lists.{inPlaces, listedPeriods, ListsChoices};
+ghost use Rattle.periods.specs.Listed.{mostChoices, numberOfChoices, ChoicesTimesPeriod, OneListedChoice, RanksListTheChoices};
+ghost use Rattle.periods.specs.Lists.{listedPeriods, startsOf, ListsChoices};
 ghost use Rattle.periods.specs.Rows.{periodsOf};
 use crate::MOST_CHOICES;
 use crate::MOST_TASKS;
@@ -46,14 +43,15 @@ impl Periods {
 
 impl Choices {
     pub fn count(&self) -> u32
-        ensures { λ r. ⌜ r ≡ numberOfChoices (listedPeriods (now (self .entry))) ⌝ }
+        ensures value { λ r. ⌜ r ≡ numberOfChoices (listedPeriods (now (self .entry))) ⌝ }
+        ensures few { λ r. ⌜ r ≤ mostChoices ⌝ }
     {
         self.total
     }
 
     // The start of each place in the choice of a rank, counted from 0.
     pub fn starts(&self, rank: u32) -> Option<[u16; MOST_TASKS]>
-        ensures value { λ r. ⌜ r ≡ cond (ltb rank (numberOfChoices (listedPeriods (now (self .entry))))) (Some (inPlaces (choiceOf (listedPeriods (now (self .entry))) rank))) None ⌝ }
+        ensures value { λ r. ⌜ r ≡ startsOf (listedPeriods (now (self .entry))) rank ⌝ }
         ensures ranks { λ _. ⌜ RanksListTheChoices (listedPeriods (now (self .entry))) ⌝ }
     {
         if rank >= self.total {

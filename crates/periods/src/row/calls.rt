@@ -50,6 +50,7 @@ impl Periods {
         common_multiple(self.as_slice()).ok_or(Refusal::LongCommonPeriod)
     }
 
+    // The periods alone, without the free places.
     pub(crate) fn as_slice(&self) -> &[u16]
         ensures value { λ r. ⌜ now r ≡ periodsOf (now (self .entry)) ⌝ }
         ensures proper { λ r. ⌜ Proper (now r) ⌝ }
