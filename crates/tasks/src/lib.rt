@@ -4,10 +4,21 @@ mod figures;
 mod rows;
 mod table;
 mod task;
+#[cfg(test)]
+mod tests;
 
 pub use case::Case;
 pub use figures::Figures;
+pub use figures::FiguresDebug;
+pub use figures::FiguresEq;
+pub use figures::FiguresPartialEq;
 pub use rows::Row;
+pub use rows::RowDebug;
+pub use rows::RowEq;
+pub use rows::RowPartialEq;
 pub use rows::Timed;
+pub use rows::TimedDebug;
+pub use rows::TimedEq;
+pub use rows::TimedPartialEq;
 pub use table::Table;
 pub use task::Task;
