@@ -1,4 +1,5 @@
 -- What a call answers: its value, unless something refuses it.
+use mathlib.Core.Path.{_≡_}
 use mathlib.Core.Bool.{Bool, true, false}
 use Rattle.std.specs.declared.option.Option.{Option}
 use Rattle.std.specs.declared.option.Option.the-variants.{Some, None}
@@ -10,6 +11,11 @@ use Rattle.refusals.specs.declared.Refusal.{Refusal}
 abbrev pub answer : {T : Type 0} → Option Refusal → T → Result T Refusal
 answer None value = Ok value
 answer (Some refusal) value = Err refusal
+
+-- refused for this reason, or else answered with a value of which P holds
+abbrev pub AnswersWith : {T : Type 0} → Option Refusal → (T → Type 0) → Result T Refusal → Type 0
+AnswersWith refusal P (Ok value) = (refusal ≡ None) × P value
+AnswersWith refusal P (Err reason) = refusal ≡ Some reason
 
 -- this refusal, if the condition holds
 abbrev pub refuseIf : Bool → Refusal → Option Refusal

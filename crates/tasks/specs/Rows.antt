@@ -15,8 +15,8 @@ use Rattle.tasks.specs.declared.figures.Figures.{Figures}
 use Rattle.tasks.specs.declared.rows.Row.{Row}
 use Rattle.tasks.specs.Figures.{isFair, firstFault}
 
-abbrev pub row : ℕ → Figures → Row
-row id figures = record { id = id; figures = figures }
+abbrev pub rowOf : ℕ → Figures → Row
+rowOf id figures = record { id = id; figures = figures }
 
 -- the ids rise strictly, from a least one on
 abbrev pub Rising : ℕ → List Row → Type 0

@@ -20,6 +20,13 @@ pub struct Figures {
     pub deadline: u16,
 }
 
+// What a row without a task holds.
+pub const NO_FIGURES: Figures = Figures {
+    work: 0,
+    period: 0,
+    deadline: 0,
+};
+
 impl Figures {
     // Whether the figures have this fault.
     pub fn breaks(self, fault: TaskFault) -> bool

@@ -1,13 +1,13 @@
 // Forming a case, and its rows.
 ghost use mathlib.Core.Path.{_≡_};
 ghost use Rattle.std.specs.declared.option.Option.the-variants.{None};
-ghost use Rattle.refusals.specs.Answers.{answer};
-ghost use Rattle.tasks.specs.Cases.{timedOf, Formed};
+ghost use Rattle.refusals.specs.Answers.{answer, AnswersWith};
+ghost use Rattle.tasks.specs.Cases.{timedOf};
 ghost use Rattle.tasks.specs.Figures.{breaks};
 ghost use Rattle.tasks.specs.Timed.{Sound, anyRow, firstFaultIn, startsLate, caseRefusal};
 use crate::case::Case;
 use crate::figures::FAULTS;
-use crate::figures::Figures;
+use crate::figures::NO_FIGURES;
 use crate::rows::Timed;
 use crate::rows::TimedHasFigures;
 use crate::rows::periods_of;
@@ -18,16 +18,12 @@ use refusals::TaskFault;
 impl Case {
     // A case of these tasks. A fault counts wherever it stands, and the smaller number is said first.
     pub fn form(rows: &[Timed]) -> Result<Case, Refusal>
-        ensures value { λ r. ⌜ Formed (now (rows .entry)) r ⌝ }
+        ensures value { λ r. ⌜ AnswersWith (caseRefusal (now (rows .entry))) (λ case. timedOf case ≡ now (rows .entry)) r ⌝ }
         ensures sound { λ _. ⌜ ((caseRefusal (now (rows .entry)) ≡ None → Sound (now (rows .entry))) × (Sound (now (rows .entry)) → caseRefusal (now (rows .entry)) ≡ None)) ⌝ }
     {
         check(rows)?;
         let none = Timed {
-            figures: Figures {
-                work: 0,
-                period: 0,
-                deadline: 0,
-            },
+            figures: NO_FIGURES,
             start: 0,
         };
         let mut all = [none; MOST_TASKS];

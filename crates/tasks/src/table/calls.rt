@@ -3,20 +3,20 @@ ghost use mathlib.Core.Path.{_≡_};
 ghost use mathlib.Core.List.{[]};
 ghost use Prim.Native.Nat.{_≤_};
 ghost use lib.ListN.{length};
-ghost use Rattle.std.specs.Results.{Cases};
 ghost use Rattle.std.specs.declared.option.Option.the-variants.{Some, None};
 ghost use Rattle.std.specs.shelf.Lists.{All};
 ghost use Rattle.periods.specs.Listed.{ChoicesTimesPeriod, OneListedChoice};
 ghost use Rattle.periods.specs.Lists.{ListsChoices};
 ghost use Rattle.periods.specs.Multiples.{mostTasks, commonPeriod, periodRefusal, LeastCommonMultiple};
 ghost use Rattle.periods.specs.Rows.{periodsOf};
-ghost use Rattle.refusals.specs.Answers.{answer};
+ghost use Rattle.refusals.specs.Answers.{answer, AnswersWith};
 ghost use Rattle.tasks.specs.Figures.{Fair};
 ghost use Rattle.tasks.specs.Loads.{periodsIn, load as loadOf};
-ghost use Rattle.tasks.specs.Rows.{row, Rising, figuresOf, placeOf, idAt, entered, amended, struck, standingRefusal, unknownRefusal, enterRefusal, amendRefusal};
+ghost use Rattle.tasks.specs.Rows.{rowOf, Rising, figuresOf, placeOf, idAt, entered, amended, struck, standingRefusal, unknownRefusal, enterRefusal, amendRefusal};
 ghost use Rattle.tasks.specs.Seeking.{StandsAt, BelongsAt};
 ghost use Rattle.tasks.specs.Tables.{rowsOf, figuresIn, Updated, OnlyAt};
 use crate::figures::Figures;
+use crate::figures::NO_FIGURES;
 use crate::rows::Row;
 use crate::rows::RowHasFigures;
 use crate::rows::periods_of;
@@ -38,11 +38,7 @@ impl Table {
     {
         let none = Row {
             id: 0,
-            figures: Figures {
-                work: 0,
-                period: 0,
-                deadline: 0,
-            },
+            figures: NO_FIGURES,
         };
         Table {
             rows: [none; MOST_TASKS],
@@ -64,7 +60,7 @@ impl Table {
     pub fn count(&self) -> usize
         ensures { λ r. ⌜ r ≡ length (rowsOf (now (self .entry))) ⌝ }
     {
-        self.count
+        self.rows().len()
     }
 
     // The id at a place, counted from 1.
@@ -79,7 +75,7 @@ impl Table {
 
     // Where the id stands, counted from 0.
     fn find(&self, id: u8) -> Result<usize, Refusal>
-        ensures { λ r. ⌜ Cases r (λ at. StandsAt id (rowsOf (now (self .entry))) at × (unknownRefusal id (rowsOf (now (self .entry))) ≡ None)) (λ refusal. unknownRefusal id (rowsOf (now (self .entry))) ≡ Some refusal) ⌝ }
+        ensures { λ r. ⌜ AnswersWith (unknownRefusal id (rowsOf (now (self .entry)))) (StandsAt id (rowsOf (now (self .entry)))) r ⌝ }
     {
         if id == 0 {
             return Err(Refusal::ZeroId);
@@ -92,7 +88,7 @@ impl Table {
 
     // Where an id that does not stand belongs, counted from 0.
     fn find_gap(&self, id: u8) -> Result<usize, Refusal>
-        ensures { λ r. ⌜ Cases r (λ at. BelongsAt id (rowsOf (now (self .entry))) at × (standingRefusal id (rowsOf (now (self .entry))) ≡ None)) (λ refusal. standingRefusal id (rowsOf (now (self .entry))) ≡ Some refusal) ⌝ }
+        ensures { λ r. ⌜ AnswersWith (standingRefusal id (rowsOf (now (self .entry)))) (BelongsAt id (rowsOf (now (self .entry)))) r ⌝ }
     {
         if id == 0 {
             return Err(Refusal::ZeroId);
@@ -105,7 +101,7 @@ impl Table {
 
     // The figures of the task with this id.
     pub fn figures(&self, id: u8) -> Result<Figures, Refusal>
-        ensures { λ r. ⌜ Cases r (λ figures. (unknownRefusal id (rowsOf (now (self .entry))) ≡ None) × (figuresOf id (rowsOf (now (self .entry))) ≡ Some figures)) (λ refusal. unknownRefusal id (rowsOf (now (self .entry))) ≡ Some refusal) ⌝ }
+        ensures { λ r. ⌜ AnswersWith (unknownRefusal id (rowsOf (now (self .entry)))) (λ figures. figuresOf id (rowsOf (now (self .entry))) ≡ Some figures) r ⌝ }
     {
         let at = self.find(id)?;
         Ok(self.rows[at].figures)
@@ -121,7 +117,7 @@ impl Table {
 
     // Adds a task; it takes its place among the ids.
     pub fn enter(&mut self, id: u8, figures: Figures) -> Result<(), Refusal>
-        ensures updated { λ r. ⌜ Updated (enterRefusal (row id figures) (rowsOf (now (self .entry)))) (entered (row id figures) (rowsOf (now (self .entry)))) (now (self .entry)) (now (self .exit)) r ⌝ }
+        ensures updated { λ r. ⌜ Updated (enterRefusal (rowOf id figures) (rowsOf (now (self .entry)))) (entered (rowOf id figures) (rowsOf (now (self .entry)))) (now (self .entry)) (now (self .exit)) r ⌝ }
         ensures law { λ r. ⌜ OnlyAt id (Some figures) (now (self .entry)) (now (self .exit)) r ⌝ }
     {
         let at = self.find_gap(id)?;
@@ -129,21 +125,18 @@ impl Table {
         if self.count == MOST_TASKS {
             return Err(Refusal::TooManyTasks);
         }
-        put_in(
-            &mut self.rows[0..self.count + 1],
-            at,
-            Row {
-                id,
-                figures: task.figures(),
-            },
-        );
+        let row = Row {
+            id,
+            figures: task.figures(),
+        };
+        put_in(&mut self.rows[0..self.count + 1], at, row);
         self.count += 1;
         Ok(())
     }
 
     // Replaces the figures of a task.
     pub fn amend(&mut self, id: u8, figures: Figures) -> Result<(), Refusal>
-        ensures updated { λ r. ⌜ Updated (amendRefusal (row id figures) (rowsOf (now (self .entry)))) (amended (row id figures) (rowsOf (now (self .entry)))) (now (self .entry)) (now (self .exit)) r ⌝ }
+        ensures updated { λ r. ⌜ Updated (amendRefusal (rowOf id figures) (rowsOf (now (self .entry)))) (amended (rowOf id figures) (rowsOf (now (self .entry)))) (now (self .entry)) (now (self .exit)) r ⌝ }
         ensures law { λ r. ⌜ OnlyAt id (Some figures) (now (self .entry)) (now (self .exit)) r ⌝ }
     {
         let at = self.find(id)?;

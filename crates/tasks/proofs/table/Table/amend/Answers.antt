@@ -1,7 +1,7 @@
 use mathlib.Core.Path.{_∙_, ap, refl}
 use native.Mathlib.Omega.{arith}
 use lib.ListN.{take, length-set}
-use Rattle.tasks.specs.Rows.{row, tidy, figuresOf, amended}
+use Rattle.tasks.specs.Rows.{rowOf, tidy, figuresOf, amended}
 use Rattle.tasks.proofs.Changes.{tidy-amended, figuresOf-amended}
 use Rattle.tasks.proofs.Faults.{test-from-fair}
 use Rattle.tasks.proofs.Found.{stands-here}
@@ -16,8 +16,8 @@ ghost-self c =
       (
         table .few,
         (
-          ap (tidy 1) (amended-stored (table .rows) _ _ _ _ refl (found .0) (omega arith))
-              ∙ tidy-amended (row _ (c .figures .result)) 1 (take (table .count) (table .rows)) (test-from-fair _ (c .figures .ensures .fair)) (table .tidy),
+          ap (tidy 1) (amended-stored (table .rows) _ _ _ _ refl (found .1) (omega arith))
+              ∙ tidy-amended (rowOf _ (c .figures .result)) 1 (take (table .count) (table .rows)) (test-from-fair _ (c .figures .ensures .fair)) (table .tidy),
           tt,
         ),
       ),
@@ -30,9 +30,9 @@ returns c =
     let formed = c .in-Continue-task .ensures tt .cases in
     let same = c .figures .ensures .value ∙ formed .1 in
     let stored =
-    amended-stored (table .rows) _ _ _ _ refl (found .0) (omega arith)
-    ∙ ap (λ figures. amended (row (c .args .id) figures) (take (table .count) (table .rows))) same in
+    amended-stored (table .rows) _ _ _ _ refl (found .1) (omega arith)
+    ∙ ap (λ figures. amended (rowOf (c .args .id) figures) (take (table .count) (table .rows))) same in
     record {
-      updated = rw (found .1, formed .0) (refl, stored);
-      law = λ _ other. ap (figuresOf other) stored ∙ figuresOf-amended _ _ other (stands-here _ _ _ (found .0));
+      updated = rw (found .0, formed .0) (refl, stored);
+      law = λ _ other. ap (figuresOf other) stored ∙ figuresOf-amended _ _ other (stands-here _ _ _ (found .1));
     }

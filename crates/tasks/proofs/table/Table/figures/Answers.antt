@@ -11,5 +11,5 @@ pub returns : need.returns
 returns c =
     let found = c .in-Continue-at .ensures tt in
     let table = c .args .self .now in
-    let within : c .in-Continue-at .at < table .count = omega (arith, found .0 .inside, length-take (table .count) (table .rows)) in
-    (found .1, figuresOf-here _ _ _ (found .0) ∙ ap (λ row. Some (row .figures)) (getD-take (table .count) (table .rows) _ blank within))
+    let within : c .in-Continue-at .at < table .count = omega (arith, found .1 .inside, length-take (table .count) (table .rows)) in
+    (found .0, figuresOf-here _ _ _ (found .1) ∙ ap (λ row. Some (row .figures)) (getD-take (table .count) (table .rows) _ blank within))

@@ -9,7 +9,7 @@ pub returns-in-Ok : need.returns-in-Ok
 returns-in-Ok c =
     let at : List Row → Type 0 = λ rows. StandsAt (c .args .id) rows (c .in-Ok .at) in
     let found = subst at (c .rows .ensures .value) (c .in-Ok .ensures tt) in
-    (found, known _ _ _ found (c .if-id-eq0 .left))
+    (known _ _ _ found (c .if-id-eq0 .left), found)
 
 pub returns-in-Err : need.returns-in-Err
 returns-in-Err c =

@@ -14,4 +14,4 @@ pub returns-in-Err : need.returns-in-Err
 returns-in-Err c =
     let at : List Row → Type 0 = λ rows. BelongsAt (c .args .id) rows (c .in-Err .at) in
     let gap = subst at (c .rows .ensures .value) (c .in-Err .ensures tt) in
-    (gap, free _ _ _ gap (c .if-id-eq0 .left))
+    (free _ _ _ gap (c .if-id-eq0 .left), gap)

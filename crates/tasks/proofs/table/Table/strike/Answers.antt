@@ -16,7 +16,7 @@ ghost-self c =
       (
         omega (arith, table .few),
         (
-          ap (tidy 1) (struck-stored (table .rows) _ _ _ _ _ (found .0) (omega arith) (out .kept .rows) (out .ensures))
+          ap (tidy 1) (struck-stored (table .rows) _ _ _ _ _ (found .1) (omega arith) (out .kept .rows) (out .ensures))
               ∙ tidy-struck (c .args .id) 1 (take (table .count) (table .rows)) (table .tidy),
           tt,
         ),
@@ -28,8 +28,8 @@ returns c =
     let table = c .args .self .now in
     let found = c .in-Continue-at .ensures tt in
     let out = c .take-out in
-    let stored = struck-stored (table .rows) _ _ _ _ _ (found .0) (omega arith) (out .kept .rows) (out .ensures) in
+    let stored = struck-stored (table .rows) _ _ _ _ _ (found .1) (omega arith) (out .kept .rows) (out .ensures) in
     record {
-      updated = rw (found .1) (refl, stored);
+      updated = rw (found .0) (refl, stored);
       law = λ _ other. ap (figuresOf other) stored ∙ figuresOf-struck _ 1 _ other (table .tidy);
     }
