@@ -1,3 +1,5 @@
 pub mod Divisors
 pub mod Multiples
 pub mod Listed
+pub mod Rows
+pub mod Lists

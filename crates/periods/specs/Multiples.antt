@@ -1,5 +1,5 @@
 -- The common period of tasks: the least common multiple of their periods.
-use Prim.Native.Nat.{ℕ, _*_, _/_, _<_}
+use Prim.Native.Nat.{ℕ, _*_, _/_, _<_, _≤_}
 use mathlib.Core.Path.{_≡_}
 use mathlib.Core.Bool.{cond}
 use mathlib.Core.List.{List, [], _∷_}
@@ -20,6 +20,10 @@ longestPeriod = 2000
 
 abbrev pub longestCommonPeriod : ℕ
 longestCommonPeriod = 10000
+
+-- each period is from 1 to the longest
+abbrev pub Proper : List ℕ → Type 0
+Proper ts = (q : ℕ) → q < length ts → (1 ≤ getD ts q 0) × (getD ts q 0 ≤ longestPeriod)
 
 unfoldable pub lcm : ℕ → ℕ → ℕ
 lcm a b = a * (b / gcd a b)
