@@ -1,21 +1,21 @@
--- What the changes of rows leave: their order, their number, and what stands under each id.
-use mathlib.Core.Path.{_≡_, _∙_, sym, ap, refl}
+-- What the changes of rows leave: their order, and what stands under each id.
+use mathlib.Core.Path.{_≡_, refl}
 use mathlib.Core.Bool.{true, false, cond}
 use mathlib.Core.List.{List, [], _∷_, _++_}
-use Prim.Native.Nat.{ℕ, suc, _+_, _≤_, _<_}
+use Prim.Native.Nat.{ℕ, _+_, _≤_, _<_}
 use native.Mathlib.Omega.{arith}
 use lib.Dec.{eqb}
-use lib.ListN.{length, take, drop}
+use lib.ListN.{length}
 use Rattle.std.specs.declared.option.Option.the-variants.{Some, None}
 use Rattle.std.specs.shelf.Lists.{All}
 use Rattle.std.proofs.shelf.Ways.{tells}
-use Rattle.tasks.specs.declared.figures.Figures.{Figures}
 use Rattle.tasks.specs.declared.rows.Row.{Row}
 use Rattle.tasks.specs.Figures.{isFair}
+use Rattle.tasks.proofs.Ordered.{all-greater}
 use Rattle.tasks.specs.Rows.{tidy, figuresOf, stands, placeOf, entered, amended, struck}
 
--- a smaller least id is no less true
-pub tidy-under : (least less : ℕ) (rows : List Row) → less ≤ least → tidy least rows ≡ true → tidy less rows ≡ true
+-- the changes keep rows tidy
+tidy-under : (least less : ℕ) (rows : List Row) → less ≤ least → tidy least rows ≡ true → tidy less rows ≡ true
 tidy-under least less [] small ordered = refl
 tidy-under least less (row ∷ rows) small ordered = grind (arith, tells)
 
@@ -54,10 +54,10 @@ figuresOf-amended new [] other present = grind (arith, tells)
 figuresOf-amended new (row ∷ rows) other present =
     let ih = figuresOf-amended new rows other in grind (arith, tells)
 
-none-under : (id least : ℕ) (rows : List Row) → tidy least rows ≡ true → id < least → figuresOf id rows ≡ None
-none-under id least [] ordered small = refl
-none-under id least (row ∷ rows) ordered small =
-    let ih = none-under id (row .id + 1) rows in grind (arith, tells)
+-- nothing stands under an id below all
+pub none-below : (id : ℕ) (rows : List Row) → All (λ row. id < row .id) rows → figuresOf id rows ≡ None
+none-below id [] great = refl
+none-below id (row ∷ rows) great = let ih = none-below id rows (great .1) in grind (arith, tells)
 
 pub figuresOf-struck :
     (id least : ℕ) (rows : List Row) (other : ℕ) → tidy least rows ≡ true →
@@ -65,7 +65,9 @@ pub figuresOf-struck :
 figuresOf-struck id least [] other ordered = grind (arith, tells)
 figuresOf-struck id least (row ∷ rows) other ordered =
     let ih = figuresOf-struck id (row .id + 1) rows other in
-    let gone = none-under id (row .id + 1) rows in grind (arith, tells)
+    let gone : id < row .id + 1 → figuresOf id rows ≡ None =
+    λ small. none-below id rows (all-greater id (row .id + 1) rows (grind (arith, tells)) small) in
+    grind (arith, tells)
 
 -- past smaller ids all goes on as if they were not there
 module _ (id : ℕ) (rest : List Row) where

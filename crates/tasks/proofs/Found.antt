@@ -4,7 +4,7 @@ use mathlib.Core.Bool.{true, false}
 use mathlib.Core.List.{List, [], _∷_, _++_}
 use Prim.Native.Nat.{ℕ, suc, _+_, _≤_, _<_}
 use native.Mathlib.Omega.{arith}
-use lib.ListN.{length, getD, set, take, drop}
+use lib.ListN.{getD, set, take, drop}
 use lib.Seq.{drop-cons}
 use Rattle.std.specs.Options.{isSome}
 use Rattle.std.specs.declared.option.Option.the-variants.{Some, None}
@@ -15,7 +15,7 @@ use Rattle.refusals.specs.declared.Refusal.the-variants.{StandingId, UnknownId}
 use Rattle.tasks.specs.declared.rows.Row.{Row}
 use Rattle.tasks.specs.Rows.{figuresOf, stands, placeOf, entered, amended, struck, standingRefusal, unknownRefusal}
 use Rattle.tasks.specs.Seeking.{StandsAt, BelongsAt}
-use Rattle.tasks.proofs.Changes.{figuresOf-past, placeOf-past, struck-past, entered-past, amended-past}
+use Rattle.tasks.proofs.Changes.{none-below, figuresOf-past, placeOf-past, struck-past, entered-past, amended-past}
 
 -- what an index past the end reads
 abbrev pub blank : Row
@@ -54,11 +54,6 @@ module _ (id : ℕ) (rows : List Row) (at : ℕ) (found : StandsAt id rows at) w
   amended-here new is =
       let here = found .here blank in
       ap (amended new) split ∙ amended-past new _ (take at rows) (rw is (found .smaller)) ∙ grind (arith, tells) ∙ sym (set-split rows at new (found .inside))
-
--- nothing stands under an id below all
-pub none-below : (id : ℕ) (rows : List Row) → All (λ row. id < row .id) rows → figuresOf id rows ≡ None
-none-below id [] great = refl
-none-below id (row ∷ rows) great = let ih = none-below id rows (great .1) in grind (arith, tells)
 
 entered-first : (new : Row) (rows : List Row) → All (λ row. new .id < row .id) rows → entered new rows ≡ new ∷ rows
 entered-first new [] great = refl

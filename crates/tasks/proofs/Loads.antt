@@ -14,7 +14,6 @@ use Rattle.std.proofs.shelf.Elements.{all-getD}
 use Rattle.std.proofs.shelf.Lists.{length-take-le, map-more, map-push, at-drop-more}
 use Rattle.std.proofs.shelf.Ways.{tells, when-true}
 use Rattle.refusals.specs.Answers.{answer}
-use Rattle.refusals.specs.declared.Refusal.{Refusal}
 use Rattle.periods.specs.Multiples.{mostTasks, longestCommonPeriod, commonPeriod, periodRefusal}
 use Rattle.periods.specs.Rows.{periodsOf, takes}
 use Rattle.periods.specs.declared.row.Periods.{Periods}

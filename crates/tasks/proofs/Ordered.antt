@@ -39,7 +39,8 @@ idAt-inside (suc zero) (row ∷ rows) d low high = refl
 idAt-inside (suc (suc place)) (row ∷ rows) d low high =
     let ih = idAt-inside (suc place) rows d in grind (arith, tells)
 
-all-greater : (id least : ℕ) (rows : List Row) → tidy least rows ≡ true → id < least → All (λ row. id < row .id) rows
+-- what is below the least id is below all
+pub all-greater : (id least : ℕ) (rows : List Row) → tidy least rows ≡ true → id < least → All (λ row. id < row .id) rows
 all-greater id least [] ordered small = tt
 all-greater id least (row ∷ rows) ordered small =
     (grind (arith, tells), all-greater id (row .id + 1) rows (grind (arith, tells)) (grind (arith, tells)))

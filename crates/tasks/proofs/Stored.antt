@@ -1,7 +1,7 @@
 -- The array of a table after a change, and the rows that it holds.
 use mathlib.Core.Path.{_≡_, _∙_, sym, ap}
 use mathlib.Core.List.{List, _++_}
-use Prim.Native.Nat.{ℕ, _+_, _-_, _≤_, _<_}
+use Prim.Native.Nat.{ℕ, _+_, _-_, _≤_}
 use native.Mathlib.Nat.{sub-zero}
 use native.Mathlib.Omega.{arith}
 use lib.ListN.{length, set, take}
@@ -13,6 +13,7 @@ use Rattle.tasks.specs.Rows.{entered, amended, struck}
 use Rattle.tasks.specs.Seeking.{StandsAt, BelongsAt}
 use Rattle.tasks.proofs.Found.{struck-here, amended-here, entered-here}
 
+-- `rows[0..n]` is `take (n - 0) rows` to the checker; part is what it holds after the shift, and post lies behind it
 module _ (rows : List Row) (count : ℕ) (id at : ℕ) where
   pub struck-stored :
       (part post : List Row) → StandsAt id (take count rows) at → count ≤ length rows →

@@ -1,5 +1,5 @@
 -- Tasks with their starts: what the tests of a case say.
-use mathlib.Core.Path.{_≡_, _∙_, sym, ap, refl}
+use mathlib.Core.Path.{_≡_, _∙_, refl}
 use mathlib.Core.Bool.{Bool, true, false}
 use mathlib.Core.List.{List, [], _∷_}
 use Prim.Native.Nat.{ℕ, _+_, _≤_, _<_}
@@ -7,24 +7,25 @@ use native.Mathlib.Omega.{arith}
 use lib.Dec.{ltb}
 use lib.ListN.{length, getD, drop, length-map}
 use Rattle.std.specs.Options.{mapped}
+use Rattle.std.specs.Orderings.{Decides}
 use Rattle.std.specs.declared.option.Option.{Option}
 use Rattle.std.specs.declared.option.Option.the-variants.{Some, None}
 use Rattle.std.specs.declared.result.Result.{Result}
 use Rattle.std.specs.declared.result.Result.the-variants.{Ok, Err}
 use Rattle.std.specs.shelf.Lists.{All}
-use Rattle.std.proofs.shelf.Lists.{at-drop-more, at-drop-all}
+use Rattle.std.proofs.shelf.Lists.{at-drop-more}
 use Rattle.std.proofs.shelf.Tests.{ltb-false, le-ltb}
-use Rattle.std.proofs.shelf.Ways.{tells}
+use Rattle.std.proofs.shelf.Ways.{tells, decides-by-and}
 use Rattle.refusals.specs.Answers.{answer, orElse, refuseIf}
 use Rattle.refusals.specs.declared.Refusal.{Refusal}
 use Rattle.refusals.specs.declared.Refusal.the-variants.{Figures as BadFigures, TooManyTasks, LateStart}
 use Rattle.refusals.specs.declared.TaskFault.{TaskFault}
 use Rattle.periods.specs.Multiples.{mostTasks, longestCommonPeriod, commonPeriod, periodRefusal}
 use Rattle.tasks.specs.declared.rows.Timed.{Timed}
-use Rattle.tasks.specs.Figures.{Fair, breaks, faults, firstOf, firstFault}
+use Rattle.tasks.specs.Figures.{Fair, firstFault}
 use Rattle.tasks.specs.Loads.{periodsIn}
-use Rattle.tasks.specs.Timed.{Sound, areTimely, anyRow, firstFaultIn, startsLate, figuresGiven, caseRefusal}
-use Rattle.tasks.proofs.Faults.{fair-from-none, none-from-fair, fair-from-test, test-from-fair}
+use Rattle.tasks.specs.Timed.{Timely, isTimely, areTimely, Sound, anyRow, firstFaultIn, startsLate, figuresGiven, caseRefusal}
+use Rattle.tasks.proofs.Faults.{none-from-fair, fair-from-test, test-from-fair}
 
 -- the search for a row that passes a test
 module _ (test : Timed → Bool) (rows : List Timed) (i : ℕ) (d : Timed) where
@@ -40,37 +41,31 @@ fair-from-no-fault [] none = tt
 fair-from-no-fault (row ∷ rows) none =
     (grind (arith, tells), fair-from-no-fault rows (grind (arith, tells)))
 
-no-fault-from-fair : (rows : List Timed) → All (λ row. Fair (row .figures)) rows → firstFaultIn rows ≡ None
+timely-from-fair : (rows : List Timed) → All (λ row. Fair (row .figures)) rows → anyRow startsLate rows ≡ false → All Timely rows
+timely-from-fair [] fair none = tt
+timely-from-fair (row ∷ rows) fair none =
+    ((fair .0, grind (arith, tells)), timely-from-fair rows (fair .1) (grind (arith, tells)))
+
+no-fault-from-timely : (rows : List Timed) → All Timely rows → firstFaultIn rows ≡ None
 unfolding firstFaultIn firstFault
-no-fault-from-fair [] fair = refl
-no-fault-from-fair (row ∷ rows) fair =
-    let ih = no-fault-from-fair rows (fair .1) in
-    let none = none-from-fair (row .figures) (fair .0) in grind (arith, tells)
+no-fault-from-timely [] timely = refl
+no-fault-from-timely (row ∷ rows) timely =
+    let ih = no-fault-from-timely rows (timely .1) in
+    let none = none-from-fair (row .figures) (timely .0 .0) in grind (arith, tells)
 
-timely-from-none-late : (rows : List Timed) → anyRow startsLate rows ≡ false → All (λ row. row .start < row .figures .period) rows
-timely-from-none-late [] none = tt
-timely-from-none-late (row ∷ rows) none =
-    (grind (arith, tells), timely-from-none-late rows (grind (arith, tells)))
-
-none-late-from-timely : (rows : List Timed) → All (λ row. row .start < row .figures .period) rows → anyRow startsLate rows ≡ false
+none-late-from-timely : (rows : List Timed) → All Timely rows → anyRow startsLate rows ≡ false
 none-late-from-timely [] timely = refl
 none-late-from-timely (row ∷ rows) timely = let ih = none-late-from-timely rows (timely .1) in grind (arith, tells)
 
-pub fair-from-test-all : (rows : List Timed) → areTimely rows ≡ true → All (λ row. Fair (row .figures)) rows
-fair-from-test-all [] test = tt
-fair-from-test-all (row ∷ rows) test =
-    (fair-from-test (row .figures) (grind (arith, tells)), fair-from-test-all rows (grind (arith, tells)))
-
-pub timely-from-test-all : (rows : List Timed) → areTimely rows ≡ true → All (λ row. row .start < row .figures .period) rows
-timely-from-test-all [] test = tt
-timely-from-test-all (row ∷ rows) test =
-    (grind (arith, tells), timely-from-test-all rows (grind (arith, tells)))
-
-pub test-from-sound : (rows : List Timed) → All (λ row. Fair (row .figures)) rows → All (λ row. row .start < row .figures .period) rows → areTimely rows ≡ true
-test-from-sound [] fair timely = refl
-test-from-sound (row ∷ rows) fair timely =
-    let ih = test-from-sound rows (fair .1) (timely .1) in
-    let test = test-from-fair (row .figures) (fair .0) in grind (arith, tells)
+-- the test of the rows says what it tests
+pub decides-timely : (rows : List Timed) → Decides (areTimely rows) (All Timely rows)
+decides-timely = decides-by-and isTimely Timely areTimely each refl (λ _ _. refl)
+  where
+    each : (row : Timed) → Decides (isTimely row) (Timely row)
+    each row = (
+      λ test. (fair-from-test (row .figures) (grind (arith, tells)), grind (arith, tells)),
+      λ timely. let test = test-from-fair (row .figures) (timely .0) in grind (arith, tells),
+    )
 
 -- nothing is refused only where each condition fails
 parts :
@@ -96,15 +91,14 @@ sound-from-none rows none =
     record {
       some = omega (arith, period .0, length-periods rows);
       few = ltb-false mostTasks (length rows) (passed .1);
-      fair = fair-from-no-fault rows (passed .0);
-      timely = timely-from-none-late rows (passed .3);
+      timely = timely-from-fair rows (fair-from-no-fault rows (passed .0)) (passed .3);
       short = period .1;
     }
 
 pub none-from-sound : (rows : List Timed) → Sound rows → caseRefusal rows ≡ None
 none-from-sound rows sound =
     rw (
-      no-fault-from-fair rows (sound .fair),
+      no-fault-from-timely rows (sound .timely),
       le-ltb mostTasks (length rows) (sound .few),
       none-period (periodsIn (figuresGiven rows)) (omega (arith, sound .some, length-periods rows)) (sound .short),
       none-late-from-timely rows (sound .timely),

@@ -1,5 +1,5 @@
 -- The figures of a task, and what can be wrong with them.
-use Prim.Native.Nat.{ℕ, _≤_}
+use Prim.Native.Nat.{_≤_}
 use mathlib.Core.Bool.{Bool, _&&_, cond}
 use mathlib.Core.List.{List, [], _∷_}
 use lib.Dec.{eqb, leb, ltb}
@@ -10,7 +10,7 @@ use Rattle.refusals.specs.declared.TaskFault.the-variants.{NoWork, LongPeriod, 
 use Rattle.periods.specs.Multiples.{longestPeriod}
 use Rattle.tasks.specs.declared.figures.Figures.{Figures}
 
--- some work, done by the deadline, which is at most the period, which is at most the longest
+-- some work, at most the deadline, which is at most the period, which is at most the longest one
 abbrev pub Fair : Figures → Type 0
 Fair f = (1 ≤ f .work) × (f .work ≤ f .deadline) × (f .deadline ≤ f .period) × (f .period ≤ longestPeriod)
 
@@ -34,5 +34,6 @@ abbrev pub firstOf : (TaskFault → Bool) → List TaskFault → Option TaskFaul
 firstOf there [] = None
 firstOf there (fault ∷ more) = cond (there fault) (Some fault) (firstOf there more)
 
+-- the fault that is told: the first one there
 unfoldable pub firstFault : Figures → Option TaskFault
 firstFault f = firstOf (breaks f) faults

@@ -28,7 +28,7 @@ abbrev pub Updated : Option Refusal → List Row → Table → Table → Result 
 Updated None next before after r = (r ≡ Ok tt) × (rowsOf after ≡ next)
 Updated (Some refusal) next before after r = (r ≡ Err refusal) × (after ≡ before)
 
--- a change that is done gives one id these figures, or none, and leaves every other id as it was
+-- a change that is done gives one id these figures, or none, and every other id keeps what it had
 abbrev pub OnlyAt : ℕ → Option Figures → Table → Table → Result (Unit {0}) Refusal → Type 0
 OnlyAt id figures before after r =
     r ≡ Ok tt →

@@ -1,5 +1,5 @@
 -- Tasks with their starts, and why they may not form a case.
-use Prim.Native.Nat.{ℕ, _≤_, _<_}
+use Prim.Native.Nat.{_≤_, _<_}
 use mathlib.Core.Bool.{Bool, true, false, _&&_, _||_}
 use mathlib.Core.List.{List, [], _∷_, map}
 use lib.Dec.{leb, ltb}
@@ -21,19 +21,24 @@ use Rattle.tasks.specs.Loads.{periodsIn}
 abbrev pub figuresGiven : List Timed → List Figures
 figuresGiven rows = map (λ row. row .figures) rows
 
--- what a case is: one to eight tasks with fair figures, each with a start below its period,
--- and a common period that is not too long
+-- a row that a case may hold: fair, with a start below its period
+abbrev pub Timely : Timed → Type 0
+Timely row = Fair (row .figures) × (row .start < row .figures .period)
+
+-- the same as a test, and the test of all rows
+abbrev pub isTimely : Timed → Bool
+isTimely row = isFair (row .figures) && ltb (row .start) (row .figures .period)
+
+abbrev pub areTimely : List Timed → Bool
+areTimely [] = true
+areTimely (row ∷ rows) = isTimely row && areTimely rows
+
+-- what a case is: one to eight such rows, with a common period that is not too long
 pub record Sound (rows : List Timed) : Type 0 where
   pub some : 1 ≤ length rows
   pub few : length rows ≤ mostTasks
-  pub fair : All (λ row. Fair (row .figures)) rows
-  pub timely : All (λ row. row .start < row .figures .period) rows
+  pub timely : All Timely rows
   pub short : commonPeriod (periodsIn (figuresGiven rows)) ≤ longestCommonPeriod
-
--- a test of both: every row is fair, and its start is below its period
-abbrev pub areTimely : List Timed → Bool
-areTimely [] = true
-areTimely (row ∷ rows) = isFair (row .figures) && (ltb (row .start) (row .figures .period) && areTimely rows)
 
 -- some row passes a test
 abbrev pub anyRow : (Timed → Bool) → List Timed → Bool

@@ -29,7 +29,8 @@ pub struct Timed {
     pub start: u16,
 }
 
-pub trait HasFigures {
+// Rows of either kind.
+pub(crate) trait HasFigures {
     ghost has: { Self → Figures };
 
     fn figures(&self) -> Figures
@@ -53,7 +54,7 @@ pub impl HasFigures for Timed as TimedHasFigures {
 }
 
 // The periods of fair rows, of which there are no more than tasks on a controller.
-pub fn periods_of<R: HasFigures>(rows: &[R]) -> Periods
+pub(crate) fn periods_of<R: HasFigures>(rows: &[R]) -> Periods
     requires few { ⌜ length (now rows) ≤ mostTasks ⌝ }
     requires fair { ⌜ All (λ row. Fair (R·HasFigures .has row)) (now rows) ⌝ }
     ensures { λ r. ⌜ periodsOf r ≡ periodsIn (map (R·HasFigures .has) (now (rows .entry))) ⌝ }

@@ -10,7 +10,7 @@ ghost use Rattle.tasks.specs.Seeking.{StandsAt, BelongsAt};
 use crate::rows::Row;
 
 // Where the id stands, or else where it belongs.
-pub fn seek(rows: &[Row], id: u8) -> Result<usize, usize>
+pub(super) fn seek(rows: &[Row], id: u8) -> Result<usize, usize>
     requires { ⌜ tidy 1 (now rows) ≡ true ⌝ }
     ensures { λ r. ⌜ Cases r (StandsAt id (now (rows .entry))) (BelongsAt id (now (rows .entry))) ⌝ }
 {
@@ -26,7 +26,7 @@ pub fn seek(rows: &[Row], id: u8) -> Result<usize, usize>
 }
 
 // Puts a row in at a place; the last row gives way.
-pub fn put_in(rows: &mut [Row], place: usize, row: Row)
+pub(super) fn put_in(rows: &mut [Row], place: usize, row: Row)
     requires { ⌜ place < length (now rows) ⌝ }
     ensures { λ _. ⌜ now (rows .exit) ≡ inserted (take (length (now (rows .entry)) - 1) (now (rows .entry))) place row ⌝ }
 {
@@ -36,7 +36,7 @@ pub fn put_in(rows: &mut [Row], place: usize, row: Row)
 }
 
 // Takes the row at a place out; the rows after it move up, and the last place is free.
-pub fn take_out(rows: &mut [Row], place: usize)
+pub(super) fn take_out(rows: &mut [Row], place: usize)
     requires { ⌜ place < length (now rows) ⌝ }
     ensures { λ _. ⌜ take (length (now (rows .entry)) - 1) (now (rows .exit)) ≡ removed (now (rows .entry)) place ⌝ }
 {

@@ -1,4 +1,4 @@
-use mathlib.Core.Path.{_∙_, ap, refl, sym, subst}
+use mathlib.Core.Path.{_∙_, ap, sym, subst}
 use mathlib.Core.List.{List}
 use Prim.Native.Nat.{_-_, _≤_}
 use lib.ListN.{length, replicate}
@@ -9,7 +9,7 @@ use Rattle.periods.specs.Multiples.{mostTasks, commonPeriod, longestCommonPerio
 use Rattle.tasks.specs.declared.rows.Timed.{Timed}
 use Rattle.tasks.specs.Loads.{periodsIn}
 use Rattle.tasks.specs.Timed.{areTimely, figuresGiven, caseRefusal}
-use Rattle.tasks.proofs.Timely.{sound-from-none, none-from-sound, test-from-sound, none-from-ok, some-from-err}
+use Rattle.tasks.proofs.Timely.{sound-from-none, none-from-sound, decides-timely, none-from-ok, some-from-err}
 use Rattle.tasks.proofs.case.Case.form.Needs as need
 
 pub returns-in-Break-check : need.returns-in-Break-check
@@ -34,7 +34,7 @@ ghost-result c =
         (
           sound .few,
           (
-            ap areTimely stored ∙ test-from-sound rows (sound .fair) (sound .timely),
+            ap areTimely stored ∙ decides-timely rows .1 (sound .timely),
             (subst short (sym stored) (sound .short), tt),
           ),
         ),

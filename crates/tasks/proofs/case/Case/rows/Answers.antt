@@ -1,8 +1,5 @@
-use mathlib.Core.Path.{_≡_}
 use borrow.Author.Needs.{needs}
-use native.Mathlib.Omega.{arith}
-use Rattle.tasks.specs.Cases.{timedOf}
-use Rattle.tasks.proofs.Timely.{fair-from-test-all, timely-from-test-all}
+use Rattle.tasks.proofs.Timely.{decides-timely}
 use Rattle.tasks.proofs.case.Case.rows.Needs as need
 
 pub returns : need.returns
@@ -12,8 +9,7 @@ returns c =
       sound = record {
         some = search needs;
         few = search needs;
-        fair = fair-from-test-all _ (search needs);
-        timely = timely-from-test-all _ (search needs);
+        timely = decides-timely _ .0 (search needs);
         short = search needs;
       };
     }

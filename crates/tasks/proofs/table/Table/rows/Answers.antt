@@ -1,7 +1,4 @@
-use mathlib.Core.Path.{_≡_}
 use borrow.Author.Needs.{needs}
-use native.Mathlib.Omega.{arith}
-use Rattle.tasks.specs.Tables.{rowsOf}
 use Rattle.tasks.proofs.Ordered.{rising-from-tidy, fair-from-tidy}
 use Rattle.tasks.proofs.table.Table.rows.Needs as need
 
