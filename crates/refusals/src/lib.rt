@@ -58,9 +58,9 @@ impl Refusal {
 }
 
 pub impl From<TaskFault> for Refusal as RefusalFromTaskFault {
-    ghost converts = { λ fault r. r ≡ Figures fault };
+    ghost converts = { λ wrong r. r ≡ Figures wrong };
 
-    fn from(fault: TaskFault) -> Refusal {
-        Refusal::Figures(fault)
+    fn from(wrong: TaskFault) -> Refusal {
+        Refusal::Figures(wrong)
     }
 }
