@@ -36,6 +36,7 @@ pub enum Refusal {
     NoTask,
     LongCommonPeriod,
     TooManyChoices,
+    ListTooShort,
     LateStart,
 }
 
@@ -52,6 +53,7 @@ impl Refusal {
             Refusal::NoTask => 20,
             Refusal::LongCommonPeriod => 21,
             Refusal::TooManyChoices => 22,
+            Refusal::ListTooShort => 31,
             Refusal::LateStart => 45,
         }
     }
