@@ -4,16 +4,15 @@ ghost use mathlib.Core.List.{[]};
 ghost use denote.Ref.{name};
 ghost use lib.ListN.{length};
 ghost use lib.Dec.{eqb};
-ghost use Rattle.entries.specs.Lists.{held, spare, slotsOf, Added, Emptied, EmptiedFor};
+ghost use Rattle.entries.specs.Lists.{held, sliceOf, slotsOf, Added, Filled, EmptiedFor};
 use super::List;
 use refusals::Refusal;
 
 impl<'a, E: Copy> List<'a, E> {
     // The empty list over these slots, whose content stays.
     pub fn new(slots: &'a mut [E]) -> List<'a, E>
-        ensures held { λ r. ⌜ held r ≡ [] ⌝ }
-        ensures spare { λ r. ⌜ spare r ≡ now (slots .entry) ⌝ }
-        ensures slice { λ r. ⌜ name (r .slots) ≡ name (slots .entry) ⌝ }
+        ensures empty { λ r. ⌜ Filled (now (slots .entry)) [] r ⌝ }
+        ensures slice { λ r. ⌜ sliceOf r ≡ name (slots .entry) ⌝ }
     {
         List { slots, len: 0 }
     }
@@ -22,13 +21,13 @@ impl<'a, E: Copy> List<'a, E> {
     pub fn len(&self) -> usize
         ensures { λ r. ⌜ r ≡ length (held (now (self .entry))) ⌝ }
     {
-        self.len
+        self.entries().len()
     }
 
     pub fn is_empty(&self) -> bool
         ensures { λ r. ⌜ r ≡ eqb (length (held (now (self .entry)))) 0 ⌝ }
     {
-        self.len == 0
+        self.len() == 0
     }
 
     // How many entries the list can hold: as many as its slice has slots.
@@ -48,9 +47,9 @@ impl<'a, E: Copy> List<'a, E> {
     // Adds an entry behind the others, unless the slice is full.
     pub fn add(&mut self, entry: E) -> Result<(), Refusal>
         ensures added { λ r. ⌜ Added (now (self .entry)) entry r (now (self .exit)) ⌝ }
-        ensures slice { λ _. ⌜ name (now (self .exit) .slots) ≡ name (now (self .entry) .slots) ⌝ }
+        ensures slice { λ _. ⌜ sliceOf (now (self .exit)) ≡ sliceOf (now (self .entry)) ⌝ }
     {
-        if self.len == self.slots.len() {
+        if self.len == self.capacity() {
             return Err(Refusal::ListTooShort);
         }
         self.slots[self.len] = entry;
@@ -60,8 +59,8 @@ impl<'a, E: Copy> List<'a, E> {
 
     // Empties the list; its slots keep their content.
     pub fn clear(&mut self)
-        ensures emptied { λ _. ⌜ Emptied (now (self .entry)) (now (self .exit)) ⌝ }
-        ensures slice { λ _. ⌜ name (now (self .exit) .slots) ≡ name (now (self .entry) .slots) ⌝ }
+        ensures empty { λ _. ⌜ Filled (slotsOf (now (self .entry))) [] (now (self .exit)) ⌝ }
+        ensures slice { λ _. ⌜ sliceOf (now (self .exit)) ≡ sliceOf (now (self .entry)) ⌝ }
     {
         self.len = 0;
     }
@@ -69,7 +68,7 @@ impl<'a, E: Copy> List<'a, E> {
     // Empties the list for so many entries, unless its slice is too short for them.
     pub fn clear_for(&mut self, count: usize) -> Result<(), Refusal>
         ensures emptied { λ r. ⌜ EmptiedFor (now (self .entry)) count r (now (self .exit)) ⌝ }
-        ensures slice { λ _. ⌜ name (now (self .exit) .slots) ≡ name (now (self .entry) .slots) ⌝ }
+        ensures slice { λ _. ⌜ sliceOf (now (self .exit)) ≡ sliceOf (now (self .entry)) ⌝ }
     {
         if count > self.capacity() {
             return Err(Refusal::ListTooShort);

@@ -2,7 +2,7 @@ use native.Mathlib.Omega.{arith}
 use borrow.Author.Count.{below-more}
 use Rattle.std.proofs.shelf.Lists.{length-map}
 use Rattle.entries.proofs.Ticks.{tick-at, found-at}
-use Rattle.entries.proofs.ticked.first_at_or_after.Needs as need
+use Rattle.entries.proofs.first_at_or_after.Needs as need
 
 -- the entry read last is at or after
 pub returns-then-tick : need.returns-then-tick
