@@ -68,9 +68,11 @@ pub fn in_words(refusal: Refusal) -> &'static str {
         Refusal::Figures(TaskFault::LateDeadline) => "a deadline passes its period",
         Refusal::Figures(TaskFault::LongWork) => "the work passes its deadline",
         Refusal::TooManyTasks => "eight tasks stand already",
+        Refusal::LargeMargin => "a margin is above 100 percent",
         Refusal::NoTask => "no task stands",
         Refusal::LongCommonPeriod => "the common period is above 10,000",
         Refusal::TooManyChoices => "more than 10,000 choices are listed",
+        Refusal::ListTooShort => "a list or a buffer is too short",
         Refusal::LateStart => "a start is not below its period",
     }
 }

@@ -3,7 +3,7 @@ use Prim.Native.Nat.{ℕ}
 use Rattle.refusals.specs.declared.TaskFault.{TaskFault}
 use Rattle.refusals.specs.declared.TaskFault.the-variants.{NoWork, LongPeriod, LateDeadline, LongWork}
 use Rattle.refusals.specs.declared.Refusal.{Refusal}
-use Rattle.refusals.specs.declared.Refusal.the-variants.{ZeroId, StandingId, UnknownId, Figures, TooManyTasks, NoTask, LongCommonPeriod, TooManyChoices, LateStart}
+use Rattle.refusals.specs.declared.Refusal.the-variants.{ZeroId, StandingId, UnknownId, Figures, TooManyTasks, LargeMargin, NoTask, LongCommonPeriod, TooManyChoices, ListTooShort, LateStart}
 
 -- a task needs work; its period is at most 2,000; its deadline at most its period; its work at most its deadline
 abbrev pub faultNumber : TaskFault → ℕ
@@ -18,7 +18,9 @@ refusalNumber StandingId = 2
 refusalNumber UnknownId = 3
 refusalNumber (Figures fault) = faultNumber fault
 refusalNumber TooManyTasks = 8
+refusalNumber LargeMargin = 10
 refusalNumber NoTask = 20
 refusalNumber LongCommonPeriod = 21
 refusalNumber TooManyChoices = 22
+refusalNumber ListTooShort = 31
 refusalNumber LateStart = 45

@@ -33,9 +33,11 @@ pub enum Refusal {
     UnknownId,
     Figures(TaskFault),
     TooManyTasks,
+    LargeMargin,
     NoTask,
     LongCommonPeriod,
     TooManyChoices,
+    ListTooShort,
     LateStart,
 }
 
@@ -49,9 +51,11 @@ impl Refusal {
             Refusal::UnknownId => 3,
             Refusal::Figures(fault) => fault.number(),
             Refusal::TooManyTasks => 8,
+            Refusal::LargeMargin => 10,
             Refusal::NoTask => 20,
             Refusal::LongCommonPeriod => 21,
             Refusal::TooManyChoices => 22,
+            Refusal::ListTooShort => 31,
             Refusal::LateStart => 45,
         }
     }
