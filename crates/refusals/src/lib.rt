@@ -37,6 +37,8 @@ pub enum Refusal {
     NoTask,
     LongCommonPeriod,
     TooManyChoices,
+    Overload,
+    NoPlan,
     ListTooShort,
     LateStart,
 }
@@ -55,6 +57,8 @@ impl Refusal {
             Refusal::NoTask => 20,
             Refusal::LongCommonPeriod => 21,
             Refusal::TooManyChoices => 22,
+            Refusal::Overload => 23,
+            Refusal::NoPlan => 24,
             Refusal::ListTooShort => 31,
             Refusal::LateStart => 45,
         }
