@@ -3,6 +3,7 @@ pub mod Faults
 pub mod Found
 pub mod Loads
 pub mod Ordered
+pub mod Placed
 pub mod Shifts
 pub mod Stored
 pub mod Timely

@@ -21,11 +21,11 @@ use Rattle.tasks.specs.declared.figures.Figures.{Figures}
 use Rattle.tasks.specs.Figures.{Fair}
 use Rattle.tasks.specs.Loads.{periodsIn, loadIn}
 
-takes-fair : (ts : List ℕ) (f : Figures) → Fair f → length ts < mostTasks → takes ts (f .period) ≡ true
+pub takes-fair : (ts : List ℕ) (f : Figures) → Fair f → length ts < mostTasks → takes ts (f .period) ≡ true
 takes-fair ts f fair room = grind (arith, tells)
 
 -- work within the period fills no more than the ticks
-work-fits : (f : Figures) (ticks : ℕ) → Fair f → f .work * (ticks / f .period) ≤ ticks
+pub work-fits : (f : Figures) (ticks : ℕ) → Fair f → f .work * (ticks / f .period) ≤ ticks
 work-fits f ticks fair =
     le-trans (mul-le-mul-right (ticks / f .period) (omega (arith, fair))) (mul-div-le ticks (f .period))
 

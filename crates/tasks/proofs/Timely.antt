@@ -57,6 +57,19 @@ none-late-from-timely : (rows : List Timed) → All Timely rows → anyRow start
 none-late-from-timely [] timely = refl
 none-late-from-timely (row ∷ rows) timely = let ih = none-late-from-timely rows (timely .1) in grind (arith, tells)
 
+-- both facts of each row, and each of both
+each-timely : (rows : List Timed) → All Timely rows → All (λ row. row .start < row .figures .period) rows
+each-timely [] timely = tt
+each-timely (row ∷ rows) timely = (timely .0 .1, each-timely rows (timely .1))
+
+each-fair : (rows : List Timed) → All Timely rows → All (λ row. Fair (row .figures)) rows
+each-fair [] timely = tt
+each-fair (row ∷ rows) timely = (timely .0 .0, each-fair rows (timely .1))
+
+pub all-timely : (rows : List Timed) → All (λ row. Fair (row .figures)) rows → All (λ row. row .start < row .figures .period) rows → All Timely rows
+all-timely [] fair timely = tt
+all-timely (row ∷ rows) fair timely = ((fair .0, timely .0), all-timely rows (fair .1) (timely .1))
+
 -- the test of the rows says what it tests
 pub decides-timely : (rows : List Timed) → Decides (areTimely rows) (All Timely rows)
 decides-timely = decides-by-and isTimely Timely areTimely each refl (λ _ _. refl)
@@ -83,6 +96,12 @@ none-period ts some short = grind (arith, tells)
 length-periods : (rows : List Timed) → length (periodsIn (figuresGiven rows)) ≡ length rows
 length-periods rows = length-map (figuresGiven rows) (λ task. task .period) ∙ length-map rows (λ row. row .figures)
 
+pub fair-from-test-all : (rows : List Timed) → areTimely rows ≡ true → All (λ row. Fair (row .figures)) rows
+fair-from-test-all rows test = each-fair rows (decides-timely rows .0 test)
+
+pub timely-from-test-all : (rows : List Timed) → areTimely rows ≡ true → All (λ row. row .start < row .figures .period) rows
+timely-from-test-all rows test = each-timely rows (decides-timely rows .0 test)
+
 -- no refusal exactly where the rows are sound
 pub sound-from-none : (rows : List Timed) → caseRefusal rows ≡ None → Sound rows
 sound-from-none rows none =
@@ -91,17 +110,19 @@ sound-from-none rows none =
     record {
       some = omega (arith, period .0, length-periods rows);
       few = ltb-false mostTasks (length rows) (passed .1);
-      timely = timely-from-fair rows (fair-from-no-fault rows (passed .0)) (passed .3);
+      fair = fair-from-no-fault rows (passed .0);
+      timely = each-timely rows (timely-from-fair rows (fair-from-no-fault rows (passed .0)) (passed .3));
       short = period .1;
     }
 
 pub none-from-sound : (rows : List Timed) → Sound rows → caseRefusal rows ≡ None
 none-from-sound rows sound =
+    let timely = all-timely rows (sound .fair) (sound .timely) in
     rw (
-      no-fault-from-timely rows (sound .timely),
+      no-fault-from-timely rows timely,
       le-ltb mostTasks (length rows) (sound .few),
       none-period (periodsIn (figuresGiven rows)) (omega (arith, sound .some, length-periods rows)) (sound .short),
-      none-late-from-timely rows (sound .timely),
+      none-late-from-timely rows timely,
     )
 
 pub none-from-ok : (o : Option Refusal) → _≡_ {A = Result (Unit {0}) Refusal} (Ok tt) (answer o tt) → o ≡ None

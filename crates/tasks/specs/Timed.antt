@@ -37,7 +37,8 @@ areTimely (row ∷ rows) = isTimely row && areTimely rows
 pub record Sound (rows : List Timed) : Type 0 where
   pub some : 1 ≤ length rows
   pub few : length rows ≤ mostTasks
-  pub timely : All Timely rows
+  pub fair : All (λ row. Fair (row .figures)) rows
+  pub timely : All (λ row. row .start < row .figures .period) rows
   pub short : commonPeriod (periodsIn (figuresGiven rows)) ≤ longestCommonPeriod
 
 -- some row passes a test

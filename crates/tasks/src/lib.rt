@@ -1,6 +1,7 @@
 // Periodic tasks: their figures, the table of a controller's tasks, and cases of tasks with their starts.
 mod case;
 mod figures;
+mod places;
 mod rows;
 mod table;
 mod task;
@@ -12,6 +13,7 @@ pub use figures::Figures;
 pub use figures::FiguresDebug;
 pub use figures::FiguresEq;
 pub use figures::FiguresPartialEq;
+pub use places::Places;
 pub use rows::Row;
 pub use rows::RowDebug;
 pub use rows::RowEq;
@@ -22,3 +24,4 @@ pub use rows::TimedEq;
 pub use rows::TimedPartialEq;
 pub use table::Table;
 pub use task::Task;
+pub use task::TimedTask;

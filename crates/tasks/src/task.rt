@@ -14,6 +14,13 @@ pub struct Task {
     ghost fair: { Fair figures },
 }
 
+// A task whose first request falls at its start.
+#[derive(Clone, Copy)]
+pub struct TimedTask {
+    pub task: Task,
+    pub start: u16,
+}
+
 impl Task {
     // A task of these figures, or the first fault of theirs.
     pub fn form(figures: Figures) -> Result<Task, TaskFault>
@@ -26,6 +33,14 @@ impl Task {
             }
         }
         Ok(Task { figures })
+    }
+
+    // A task of figures that are known to be fair.
+    pub(crate) fn of(figures: Figures) -> Task
+        requires { ⌜ Fair figures ⌝ }
+        ensures { λ r. ⌜ r .figures ≡ figures ⌝ }
+    {
+        Task { figures }
     }
 
     pub fn figures(&self) -> Figures

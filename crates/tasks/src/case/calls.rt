@@ -1,8 +1,8 @@
 // Forming a case, and its rows.
 ghost use mathlib.Core.Path.{_≡_};
 ghost use Rattle.std.specs.declared.option.Option.the-variants.{None};
-ghost use Rattle.refusals.specs.Answers.{answer, AnswersWith};
-ghost use Rattle.tasks.specs.Cases.{timedOf};
+ghost use Rattle.refusals.specs.Answers.{answer};
+ghost use Rattle.tasks.specs.Cases.{timedOf, TaskAt, Formed};
 ghost use Rattle.tasks.specs.Figures.{breaks};
 ghost use Rattle.tasks.specs.Timed.{Sound, anyRow, firstFaultIn, startsLate, caseRefusal};
 use crate::case::Case;
@@ -11,6 +11,8 @@ use crate::figures::NO_FIGURES;
 use crate::rows::Timed;
 use crate::rows::TimedHasFigures;
 use crate::rows::periods_of;
+use crate::task::Task;
+use crate::task::TimedTask;
 use periods::MOST_TASKS;
 use refusals::Refusal;
 use refusals::TaskFault;
@@ -18,7 +20,7 @@ use refusals::TaskFault;
 impl Case {
     // A case of these tasks. A fault counts wherever it stands, and the smaller number is said first.
     pub fn form(rows: &[Timed]) -> Result<Case, Refusal>
-        ensures value { λ r. ⌜ AnswersWith (caseRefusal (now (rows .entry))) (λ case. timedOf case ≡ now (rows .entry)) r ⌝ }
+        ensures value { λ r. ⌜ Formed (now (rows .entry)) r ⌝ }
         ensures sound { λ _. ⌜ ((caseRefusal (now (rows .entry)) ≡ None → Sound (now (rows .entry))) × (Sound (now (rows .entry)) → caseRefusal (now (rows .entry)) ≡ None)) ⌝ }
     {
         check(rows)?;
@@ -40,6 +42,20 @@ impl Case {
         ensures sound { λ r. ⌜ Sound (now r) ⌝ }
     {
         &self.rows[0..self.count]
+    }
+
+    // The task at a place, counted from 0, and its start.
+    pub fn task(&self, place: usize) -> Option<TimedTask>
+        ensures { λ r. ⌜ TaskAt (now (self .entry)) place r ⌝ }
+    {
+        if place >= self.count {
+            return None;
+        }
+        let Timed { figures, start } = self.rows[place];
+        Some(TimedTask {
+            task: Task::of(figures),
+            start,
+        })
     }
 }
 

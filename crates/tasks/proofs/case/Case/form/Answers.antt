@@ -9,7 +9,7 @@ use Rattle.periods.specs.Multiples.{mostTasks, commonPeriod, longestCommonPerio
 use Rattle.tasks.specs.declared.rows.Timed.{Timed}
 use Rattle.tasks.specs.Loads.{periodsIn}
 use Rattle.tasks.specs.Timed.{areTimely, figuresGiven, caseRefusal}
-use Rattle.tasks.proofs.Timely.{sound-from-none, none-from-sound, decides-timely, none-from-ok, some-from-err}
+use Rattle.tasks.proofs.Timely.{all-timely, sound-from-none, none-from-sound, decides-timely, none-from-ok, some-from-err}
 use Rattle.tasks.proofs.case.Case.form.Needs as need
 
 pub returns-in-Break-check : need.returns-in-Break-check
@@ -34,7 +34,7 @@ ghost-result c =
         (
           sound .few,
           (
-            ap areTimely stored ∙ decides-timely rows .1 (sound .timely),
+            ap areTimely stored ∙ decides-timely rows .1 (all-timely rows (sound .fair) (sound .timely)),
             (subst short (sym stored) (sound .short), tt),
           ),
         ),

@@ -1,5 +1,5 @@
 use borrow.Author.Needs.{needs}
-use Rattle.tasks.proofs.Timely.{decides-timely}
+use Rattle.tasks.proofs.Timely.{fair-from-test-all, timely-from-test-all}
 use Rattle.tasks.proofs.case.Case.rows.Needs as need
 
 pub returns : need.returns
@@ -9,7 +9,8 @@ returns c =
       sound = record {
         some = search needs;
         few = search needs;
-        timely = decides-timely _ .0 (search needs);
+        fair = fair-from-test-all _ (search needs);
+        timely = timely-from-test-all _ (search needs);
         short = search needs;
       };
     }
