@@ -1,0 +1,12 @@
+pub mod Backlog
+pub mod Repeats
+pub mod Streams
+pub mod Members
+pub mod Lateness
+pub mod Moves
+pub mod Overload
+pub mod WorstStart
+pub mod Levels
+pub mod Loads
+pub mod Laws
+pub mod Related

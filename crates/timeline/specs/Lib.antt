@@ -1,0 +1,4 @@
+pub mod Processor
+pub mod Requests
+pub mod Timeline
+pub mod Laws

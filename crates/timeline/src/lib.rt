@@ -1,0 +1,1 @@
+// The endless timeline of periodic tasks on one processor: its definitions, in specs/, and its laws, in proofs/.
