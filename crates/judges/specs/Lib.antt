@@ -1,0 +1,5 @@
+pub mod Margin
+pub mod Meaning
+pub mod Screen
+pub mod Tick
+pub mod WorstStart
