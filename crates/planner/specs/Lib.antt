@@ -1,0 +1,4 @@
+pub mod Filling
+pub mod Orders
+pub mod Plans
+pub mod Positions
