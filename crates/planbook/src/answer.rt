@@ -3,6 +3,8 @@ use crate::call::Call;
 use crate::failure::Failure;
 use crate::failure::FailureFromRefusal;
 use crate::failure::FailureFromRefused;
+use judges::Judge;
+use planner::plan_for;
 use std::alloc::Global;
 use std::fmt;
 use tasks::Figures;
@@ -14,6 +16,15 @@ pub enum Answer {
     Number(u64),
     Ids(Vec<u8>),
     Task(Figures),
+    Plan(Vec<Placed>),
+}
+
+// The start and the level of a task in a plan.
+#[derive(Clone, Copy)]
+pub struct Placed {
+    id: u8,
+    start: u16,
+    level: u8,
 }
 
 pub impl fmt::Display for Answer as AnswerDisplay {
@@ -36,6 +47,13 @@ pub impl fmt::Display for Answer as AnswerDisplay {
                 } = figures;
                 write!(f, " {work} {period} {deadline}")
             }
+            Answer::Plan(tasks) => {
+                for task in tasks.iter() {
+                    let Placed { id, start, level } = task;
+                    write!(f, " {id}:{start}:{level}")?;
+                }
+                Ok(())
+            }
         }
     }
 }
@@ -49,8 +67,29 @@ fn ids(heap: Global, table: &Table) -> Result<Vec<u8>, Failure> {
     Ok(ids)
 }
 
-// Carries a call out on the table; the table's own answers and refusals are handed on.
-pub fn carry_out(heap: Global, table: &mut Table, call: Call) -> Result<Answer, Failure> {
+// A plan of the table, by rising id.
+fn planned<J: Judge>(heap: Global, judge: &J, table: &Table) -> Result<Vec<Placed>, Failure> {
+    let plan = plan_for(judge, table)?;
+    let mut tasks = Vec::new(heap);
+    for (place, row) in table.rows().iter().enumerate() {
+        if let (Some(start), Some(level)) = (plan.start(place), plan.level(place)) {
+            tasks.push(Placed {
+                id: row.id,
+                start,
+                level,
+            })?;
+        }
+    }
+    Ok(tasks)
+}
+
+// Carries a call out on the table; the library's own answers and refusals are handed on.
+pub fn carry_out<J: Judge>(
+    heap: Global,
+    judge: &J,
+    table: &mut Table,
+    call: Call,
+) -> Result<Answer, Failure> {
     let answer = match call {
         Call::Enter { id, figures } => {
             table.enter(id, figures)?;
@@ -70,6 +109,7 @@ pub fn carry_out(heap: Global, table: &mut Table, call: Call) -> Result<Answer, 
         Call::Demand => Answer::Number(u64::from(table.load()?)),
         Call::Choices => Answer::Number(u64::from(table.choices()?.count())),
         Call::Task { id } => Answer::Task(table.figures(id)?),
+        Call::Plan => Answer::Plan(planned(heap, judge, table)?),
     };
     Ok(answer)
 }

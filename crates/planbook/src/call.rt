@@ -18,6 +18,7 @@ pub enum Call {
     Demand,
     Choices,
     Task { id: u8 },
+    Plan,
 }
 
 impl Call {
@@ -40,6 +41,7 @@ impl Call {
             [b"demand"] => Call::Demand,
             [b"choices"] => Call::Choices,
             [b"task", id] => Call::Task { id: read_id(id)? },
+            [b"plan"] => Call::Plan,
             _ => return Err(LineFault::NoCall),
         };
         Ok(Some(call))

@@ -72,6 +72,8 @@ pub fn in_words(refusal: Refusal) -> &'static str {
         Refusal::NoTask => "no task stands",
         Refusal::LongCommonPeriod => "the common period is above 10,000",
         Refusal::TooManyChoices => "more than 10,000 choices are listed",
+        Refusal::Overload => "the load is above the common period",
+        Refusal::NoPlan => "no order passes the judge, whatever the starts",
         Refusal::ListTooShort => "a list or a buffer is too short",
         Refusal::LateStart => "a start is not below its period",
     }

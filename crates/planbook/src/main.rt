@@ -2,6 +2,7 @@
 mod answer;
 mod call;
 mod failure;
+mod pile;
 
 use answer::Answer;
 use answer::AnswerDisplay;
@@ -12,25 +13,37 @@ use failure::FailureFromAllocError;
 use failure::FailureFromLineFault;
 use failure::LineFaultDisplay;
 use failure::in_words;
+use judges::Judge;
+use pile::open;
 use std::alloc::Global;
-use std::env;
 use std::io;
 use std::io::BufRead;
 use std::io::BufReader;
 use tasks::Table;
 
 // What a line is answered; a line without words is answered by nothing.
-fn respond(heap: Global, table: &mut Table, line: &[u8]) -> Result<Option<Answer>, Failure> {
+fn respond<J: Judge>(
+    heap: Global,
+    judge: &J,
+    table: &mut Table,
+    line: &[u8],
+) -> Result<Option<Answer>, Failure> {
     let words = script::words(heap, line)?;
     match Call::read(words.as_slice())? {
-        Some(call) => Ok(Some(carry_out(heap, table, call)?)),
+        Some(call) => Ok(Some(carry_out(heap, judge, table, call)?)),
         None => Ok(None),
     }
 }
 
 // Writes what the line with this number is answered.
-fn reply(rt: &LibcRuntime, table: &mut Table, number: u64, line: &[u8]) -> io::Result<()> {
-    match respond(rt.alloc(), table, line) {
+fn reply<J: Judge>(
+    rt: &LibcRuntime,
+    judge: &J,
+    table: &mut Table,
+    number: u64,
+    line: &[u8],
+) -> io::Result<()> {
+    match respond(rt.alloc(), judge, table, line) {
         Ok(Some(answer)) => println!(rt, "{answer}"),
         Ok(None) => Ok(()),
         Err(Failure::Refused(refusal)) => println!(
@@ -44,7 +57,7 @@ fn reply(rt: &LibcRuntime, table: &mut Table, number: u64, line: &[u8]) -> io::R
 }
 
 // Reads the script to its end, and answers each line before the next is read.
-fn run(rt: &LibcRuntime) -> io::Result<()> {
+pub fn run<J: Judge>(rt: &LibcRuntime, judge: &J) -> io::Result<()> {
     let mut script = BufReader::new(rt.stdin());
     let mut line = Vec::new(rt.alloc());
     let mut table = Table::new();
@@ -52,30 +65,14 @@ fn run(rt: &LibcRuntime) -> io::Result<()> {
         line.clear();
         match script.read_until(b'\n', &mut line) {
             Ok(0) => break,
-            Ok(_) => reply(rt, &mut table, number, line.as_slice())?,
+            Ok(_) => reply(rt, judge, &mut table, number, line.as_slice())?,
             Err(_) => return println!(rt, "error line {number}: the script cannot be read"),
         }
     }
     Ok(())
 }
 
-// Whether the command line names a judge that there is; without words the judge is `tick`.
-fn names_judge(rt: &LibcRuntime) -> io::Result<bool> {
-    let mut words = env::args(rt)?;
-    let _program = words.next();
-    Ok(
-        match (words.next(), words.next()) {
-            (None, _) => true,
-            (Some(word), None) => word.as_str() == "tick",
-            (Some(_), Some(_)) => false,
-        },
-    )
-}
-
 // The exit status is 0 in every case: all that there is to say stands on standard output.
 fn main(rt: LibcRuntime) {
-    let _ = match names_judge(&rt) {
-        Ok(true) => run(&rt),
-        Ok(false) | Err(_) => rt.println("error judge: no such judge"),
-    };
+    let _ = open(&rt);
 }
