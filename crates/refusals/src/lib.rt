@@ -40,6 +40,7 @@ pub enum Refusal {
     Overload,
     NoPlan,
     ListTooShort,
+    WrongWindow,
     LateStart,
 }
 
@@ -60,6 +61,7 @@ impl Refusal {
             Refusal::Overload => 23,
             Refusal::NoPlan => 24,
             Refusal::ListTooShort => 31,
+            Refusal::WrongWindow => 32,
             Refusal::LateStart => 45,
         }
     }

@@ -107,15 +107,14 @@ module _ (level : ℕ) (rows : List SheetRow) (i : ℕ) (d : SheetRow) (inside :
   taken-later other = at-drop-more (λ rest. isIn level (levelsIn rest)) rows i d inside ∙ grind (arith, tells)
 
 -- the common period
-figures-timed : (rows : List SheetRow) → figuresGiven (timedIn rows) ≡ map (λ row. row .figures) rows
+pub figures-timed : (rows : List SheetRow) → figuresGiven (timedIn rows) ≡ map (λ row. row .figures) rows
 figures-timed [] = refl
 figures-timed (row ∷ rows) = ap (λ tasks. row .figures ∷ tasks) (figures-timed rows)
 
-module _ (ts : List ℕ) (rows : List SheetRow) (gathered : ts ≡ periodsIn (map (λ row. row .figures) rows)) where
+module _ (ts : List ℕ) (rows : List SheetRow) (gathered : ts ≡ periodsIn (figuresGiven (timedIn rows))) where
   same-period : whenTrue (ltb longestCommonPeriod (commonPeriod ts)) LongCommonPeriod ≡ periodFault rows
   same-period =
-      ap (λ all. whenTrue (ltb longestCommonPeriod (commonPeriod all)) LongCommonPeriod)
-      (gathered ∙ ap periodsIn (sym (figures-timed rows)))
+      ap (λ all. whenTrue (ltb longestCommonPeriod (commonPeriod all)) LongCommonPeriod) gathered
 
   pub short-period :
       (common : ℕ) → Ok common ≡ answer (periodRefusal ts) (commonPeriod ts) → None ≡ periodFault rows
@@ -126,5 +125,5 @@ module _ (ts : List ℕ) (rows : List SheetRow) (gathered : ts ≡ periodsIn (ma
       Some LongCommonPeriod ≡ periodFault rows
   long-period refusal some is =
       let long : length ts ≡ length rows =
-      ap length gathered ∙ length-map (map (λ row. row .figures) rows) (λ task. task .period) ∙ length-map rows (λ row. row .figures) in
+      ap length gathered ∙ length-map (figuresGiven (timedIn rows)) (λ task. task .period) ∙ ap length (figures-timed rows) ∙ length-map rows (λ row. row .figures) in
       grind (arith, tells) ∙ same-period

@@ -4,9 +4,12 @@ ghost use Prim.Native.Nat.{_≤_};
 ghost use lib.ListN.{length};
 ghost use Rattle.std.specs.Results.{errPart};
 ghost use Rattle.periods.specs.Multiples.{mostTasks};
+ghost use Rattle.periods.specs.Rows.{periodsOf};
 ghost use Rattle.std.specs.shelf.Lists.{All};
 ghost use Rattle.tasks.specs.Figures.{Fair};
-ghost use Rattle.sheets.specs.Checks.{lastId, isIn, levelsIn, faultBy, wrongBy, entriesFault, countFault, periodFault, rowsFault};
+ghost use Rattle.tasks.specs.Loads.{periodsIn};
+ghost use Rattle.tasks.specs.Timed.{figuresGiven};
+ghost use Rattle.sheets.specs.Checks.{timedIn, lastId, isIn, levelsIn, faultBy, wrongBy, entriesFault, countFault, periodFault, rowsFault};
 use crate::fault::EntryFault;
 use crate::fault::EntryFaultFromTaskFault;
 use crate::fault::SheetFault;
@@ -121,6 +124,19 @@ fn check_entries(rows: &[SheetRow]) -> Result<(), WrongEntry>
     Check::Levels.entries(rows)
 }
 
+// The periods of fair rows.
+pub fn periods_of(rows: &[SheetRow]) -> Periods
+    requires few { ⌜ length (now rows) ≤ mostTasks ⌝ }
+    requires fair { ⌜ All (λ row. Fair (row .figures)) (now rows) ⌝ }
+    ensures { λ r. ⌜ periodsOf r ≡ periodsIn (figuresGiven (timedIn (now (rows .entry)))) ⌝ }
+{
+    let mut periods = Periods::new();
+    for row in rows {
+        periods.add(row.figures.period);
+    }
+    periods
+}
+
 // Whether the common period of fair rows is too long.
 fn check_period(rows: &[SheetRow]) -> Result<(), SheetFault>
     requires some { ⌜ 1 ≤ length (now rows) ⌝ }
@@ -128,11 +144,7 @@ fn check_period(rows: &[SheetRow]) -> Result<(), SheetFault>
     requires fair { ⌜ All (λ row. Fair (row .figures)) (now rows) ⌝ }
     ensures { λ r. ⌜ errPart r ≡ periodFault (now (rows .entry)) ⌝ }
 {
-    let mut periods = Periods::new();
-    for row in rows {
-        periods.add(row.figures.period);
-    }
-    match periods.common_period() {
+    match periods_of(rows).common_period() {
         Ok(_) => Ok(()),
         Err(_) => Err(SheetFault::LongCommonPeriod),
     }

@@ -1,9 +1,13 @@
 // Forming a sheet, and its rows.
 ghost use mathlib.Core.Path.{_≡_};
 ghost use Rattle.std.specs.declared.option.Option.the-variants.{None};
-ghost use Rattle.sheets.specs.Checks.{Sound, rowsFault};
+ghost use Rattle.periods.specs.Multiples.{commonPeriod};
+ghost use Rattle.tasks.specs.Loads.{periodsIn};
+ghost use Rattle.tasks.specs.Timed.{figuresGiven};
+ghost use Rattle.sheets.specs.Checks.{Sound, timedIn, rowsFault};
 ghost use Rattle.sheets.specs.Sheets.{rowsOf, Gives};
 use crate::check::check_rows;
+use crate::check::periods_of;
 use crate::fault::SheetFault;
 use crate::row::BLANK;
 use crate::row::SheetRow;
@@ -31,5 +35,12 @@ impl Sheet {
         ensures sound { λ r. ⌜ Sound (now r) ⌝ }
     {
         &self.rows[0..self.count]
+    }
+
+    // The least common multiple of the tasks' periods.
+    pub fn common_period(&self) -> u32
+        ensures { λ r. ⌜ r ≡ commonPeriod (periodsIn (figuresGiven (timedIn (rowsOf (now (self .entry)))))) ⌝ }
+    {
+        periods_of(self.rows()).common_period().unwrap()
     }
 }

@@ -3,7 +3,7 @@ use mathlib.Core.List.{map}
 use lib.ListN.{take}
 use Rattle.periods.specs.Rows.{periodsOf}
 use Rattle.tasks.specs.Loads.{periodsIn}
-use Rattle.sheets.proofs.check.check_period.Given as given
+use Rattle.sheets.proofs.check.periods_of.Given as given
 
 -- the periods of the rows passed
 abbrev pub Inv-loop-row : given.InvT-loop-row

@@ -1,0 +1,10 @@
+pub mod Dues
+pub mod Filling
+pub mod Levels
+pub mod Near
+pub mod Ordered
+pub mod Owed
+pub mod Raised
+pub mod Shift
+pub mod Shown
+pub mod Windows
