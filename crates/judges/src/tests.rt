@@ -5,6 +5,9 @@ use crate::MarginMeasuringJudge;
 use crate::MeasuringJudge;
 use crate::Screen;
 use crate::ScreenJudge;
+use crate::Tick;
+use crate::TickJudge;
+use crate::TickMeasuringJudge;
 use crate::WorstStart;
 use crate::WorstStartJudge;
 use crate::WorstStartMeasuringJudge;
@@ -40,6 +43,23 @@ fn worst_start_counts_what_comes_from_above() -> Result<(), Fail> {
     check_eq(WorstStart.response(&case, 1, &places(&[0])), Some(12))?;
     check_eq(WorstStart.response(&case, 2, &places(&[0, 1])), None)?;
     check_eq(WorstStart.response(&case, 3, &places(&[0])), None)
+}
+
+#[test]
+fn tick_counts_the_starts() -> Result<(), Fail> {
+    let every = places(&[0, 1, 2, 7]);
+    let common = Case::form(&[task(3, 8), task(6, 12), task(1, 12)])?;
+    check(!Tick.rule(&common, 2, &every))?;
+    check(!WorstStart.rule(&common, 2, &every))?;
+    let mut late = task(1, 12);
+    late.start = 10;
+    let apart = Case::form(&[task(3, 8), task(6, 12), late])?;
+    check(Tick.rule(&apart, 2, &every))?;
+    check_eq(Tick.response(&apart, 2, &every), Some(12))?;
+    check(!WorstStart.rule(&apart, 2, &every))?;
+    check(!Tick.rule(&apart, 3, &every))?;
+    check(Margin::new(0, Tick)?.rule(&apart, 2, &every))?;
+    check(!Margin::new(100, Tick)?.rule(&apart, 2, &every))
 }
 
 #[test]
