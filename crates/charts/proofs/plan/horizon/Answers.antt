@@ -10,7 +10,7 @@ unfolding horizon
 returns c =
     let rows = c.rows.ensures.value in
     let sound = c.rows.ensures.sound in
-    let latest = c.from.ensures ∙ c.latest-start.ensures in
+    let latest = c.from.ensures ∙ c.latest_start.ensures in
     let same = ap latest_start rows in
     let period = ap (λ all. common_period (periods_in (tasks_of all))) rows in
     let is = c.common_period.ensures in

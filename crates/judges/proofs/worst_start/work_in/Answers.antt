@@ -23,15 +23,15 @@ rounds-requires c =
       All-get_or (λ row. Fair row.figures) c.args.rows.now c.loop-place.place blank c.loop-place-test.true c.requires.sound.fair,
     )
 
-pub overflow-mul-work : goal.overflow-mul-work
-overflow-mul-work c =
+pub overflow_mul-work : goal.overflow_mul-work
+overflow_mul-work c =
     omega (
       arith,
       (work_here c.args.rows.now _ _ _ _ _ c.requires.sound.fair c.loop-place-test.true c.requires.few c.from.ensures c.rounds.ensures c.from-then-contains.ensures).1,
     )
 
-pub overflow-add-work : goal.overflow-add-work
-overflow-add-work c =
+pub overflow_add-work : goal.overflow_add-work
+overflow_add-work c =
     omega (
       arith,
       (work_here c.args.rows.now _ _ _ _ _ c.requires.sound.fair c.loop-place-test.true c.requires.few c.from.ensures c.rounds.ensures c.from-then-contains.ensures).1,

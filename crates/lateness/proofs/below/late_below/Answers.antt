@@ -4,27 +4,27 @@ use Rattle.lateness.specs.Below.{LateBelow, NeverLateBelow}
 use Rattle.lateness.proofs.Ruled.{ruled_task, ruled_none}
 use Rattle.lateness.proofs.below.late_below.Goals as goal
 
-pub returns-then-is-some : goal.returns-then-is-some
-returns-then-is-some c =
+pub returns-then-is_some : goal.returns-then-is_some
+returns-then-is_some c =
     record {
-      value = ruled_task c.args.case.now c.args.judged c.args.above.now c.task.result c.worst_response.result c.is-none.result c.task.ensures
-          (sym c.is-some.ensures ∙ c.if-is-some.true) c.worst_response.ensures.value c.is-none.ensures;
+      value = ruled_task c.args.case.now c.args.judged c.args.above.now c.task.result c.worst_response.result c.is_none.result c.task.ensures
+          (sym c.is_some.ensures ∙ c.if-is_some.true) c.worst_response.ensures.value c.is_none.ensures;
       decides = decides_law;
       overloaded = overloaded_law;
       independent = independent_law;
       less = less_law;
-      worst-starts = worst_starts_law;
+      worst_starts = worst_starts_law;
     }
 
-pub returns-else-is-some : goal.returns-else-is-some
-returns-else-is-some c =
+pub returns-else-is_some : goal.returns-else-is_some
+returns-else-is_some c =
     record {
       value = subst (λ r. MatchBool r (LateBelow c.args.case.now c.args.judged c.args.above.now) (NeverLateBelow c.args.case.now c.args.judged c.args.above.now))
-          (sym c.is-some.ensures)
-          (ruled_none c.args.case.now c.args.judged c.args.above.now c.task.result c.task.ensures (sym c.is-some.ensures ∙ c.if-is-some.false));
+          (sym c.is_some.ensures)
+          (ruled_none c.args.case.now c.args.judged c.args.above.now c.task.result c.task.ensures (sym c.is_some.ensures ∙ c.if-is_some.false));
       decides = decides_law;
       overloaded = overloaded_law;
       independent = independent_law;
       less = less_law;
-      worst-starts = worst_starts_law;
+      worst_starts = worst_starts_law;
     }

@@ -7,48 +7,48 @@ use Rattle.planner.proofs.Starts.{rank_listed, rank_past, no_plan, choice_refuse
 use Rattle.planner.proofs.choosing.search.Goals as goal
 
 -- the choice of a rank always forms a case
-pub returns-in-err-case : goal.returns-in-err-case
-returns-in-err-case g c =
+pub returns-in_err-case : goal.returns-in_err-case
+returns-in_err-case g c =
     let table = c.args.table.now in
-    let listed = c.in-ok-choices.ensures.value in
+    let listed = c.in_ok-choices.ensures.value in
     let (below, chosen) = rank_listed _ _ c.choices.rank listed.1 c.in-Some.starts c.in-Some.ensures.value in
     absurd
     (choice_forms (rows_of table) c.choices.rank
     (omega (arith, table.few, length-take table.count table.rows)) (fair_from_tidy 1 (rows_of table) table.tidy)
-    listed.0 below c.in-Some.starts _ chosen c.in-err-case.ensures)
+    listed.0 below c.in-Some.starts _ chosen c.in_err-case.ensures)
 
 pub choices_preserved : goal.choices_preserved
 choices_preserved g c =
     let judge = c.args.judge.now in
     let table = c.args.table.now in
-    let listed = c.in-ok-choices.ensures.value in
+    let listed = c.in_ok-choices.ensures.value in
     let (below, chosen) = rank_listed _ _ c.choices.rank listed.1 c.in-Some.starts c.in-Some.ensures.value in
     below_more _ _ c.choices.invariant
     (choice_refused (g.J.Judge.meaning judge) (g.met.J.Judge.lawful judge) (rows_of table) (table_fair table) c.choices.rank
-    c.in-Some.starts chosen c.in-ok-case.case c.in-ok-case.ensures.1
-    c.in-default-order-for.ensures)
+    c.in-Some.starts chosen c.in_ok-case.case c.in_ok-case.ensures.1
+    c.in_default-order_for.ensures)
 
 pub returns-in-Some : goal.returns-in-Some
 returns-in-Some g c =
     let judge = c.args.judge.now in
     let table = c.args.table.now in
-    let listed = c.in-ok-choices.ensures.value in
+    let listed = c.in_ok-choices.ensures.value in
     let (below, chosen) = rank_listed _ _ c.choices.rank listed.1 c.in-Some.starts c.in-Some.ensures.value in
     let made = c.new.ensures in (
       listed.0,
       choice_planned (g.J.Judge.meaning judge) (g.met.J.Judge.lawful judge) (rows_of table) (table_fair table) c.choices.rank
-          c.in-Some.starts chosen c.in-ok-case.case c.in-ok-case.ensures.1 below
-          c.in-Some-order-for.order c.new.result made.starts made.count made.levels
-          c.in-Some-order-for.ensures,
+          c.in-Some.starts chosen c.in_ok-case.case c.in_ok-case.ensures.1 below
+          c.in-Some-order_for.order c.new.result made.starts made.count made.levels
+          c.in-Some-order_for.ensures,
     )
 
 pub returns : goal.returns
 returns g c =
     let judge = c.args.judge.now in
     let table = c.args.table.now in
-    let listed = c.in-ok-choices.ensures.value in (
+    let listed = c.in_ok-choices.ensures.value in (
       listed.0,
       no_plan (g.J.Judge.meaning judge) (g.met.J.Judge.lawful judge) (figures_in table) (table_fair table) c.choices.rank
-          c.in-ok-choices.ensures.one (rank_past _ _ c.choices.rank listed.1 c.in-default.ensures.value)
+          c.in_ok-choices.ensures.one (rank_past _ _ c.choices.rank listed.1 c.in_default.ensures.value)
           c.choices.invariant,
     )

@@ -14,12 +14,12 @@ use Rattle.book.proofs.Planning.{planned_whole, rows_planned, rows_none_late, ro
 use Rattle.book.proofs.Rows.{tasks_in-with_plan}
 use Rattle.book.proofs.book.Book.plan.Goals as goal
 
-pub returns-in-err-plan : goal.returns-in-err-plan
-returns-in-err-plan g c =
-    let exit = err_from_is_err_and c.from-residual.result c.from-residual.ensures.1 in
+pub returns-in_err-plan : goal.returns-in_err-plan
+returns-in_err-plan g c =
+    let exit = err_from_is_err_and c.from_residual.result c.from_residual.ensures.1 in
     let M = g.J.Judge.meaning c.args.self.now.judge in
-    let Why : List Row → Type 0 = λ rows. Unplanned M (map (λ row. row.figures) rows) c.in-err-plan.field-0.0 in
-    rw (exit.1, exit.2) (subst Why c.table-table.ensures c.in-err-plan.ensures, refl)
+    let Why : List Row → Type 0 = λ rows. Unplanned M (map (λ row. row.figures) rows) c.in_err-plan.field-0.0 in
+    rw (exit.1, exit.2) (subst Why c.table-table.ensures c.in_err-plan.ensures, refl)
 
 pub of-requires : goal.of-requires
 of-requires g c =
@@ -27,8 +27,8 @@ of-requires g c =
     let M = g.J.Judge.meaning judge in
     let lawful = g.met.J.Judge.lawful judge in
     let table = c.table-table.result in
-    let plan = c.in-ok-plan.plan in
-    let answered = c.in-ok-plan.ensures in
+    let plan = c.in_ok-plan.plan in
+    let answered = c.in_ok-plan.ensures in
     record {
       sound = rows_sound M lawful table plan answered.2 answered.0;
       in_time = rows_none_late M lawful table plan answered.2;
@@ -41,8 +41,8 @@ returns g c =
     let M = g.J.Judge.meaning judge in
     let lawful = g.met.J.Judge.lawful judge in
     let table = c.table-table.result in
-    let plan = c.in-ok-plan.plan in
-    let answered = c.in-ok-plan.ensures in
+    let plan = c.in_ok-plan.plan in
+    let answered = c.in_ok-plan.ensures in
     let same = c.table-table.ensures in
     let figures = ap (λ rows. map (λ row. row.figures) rows) same in
     let Passing : List SheetRow → Type 0 = Planned M in

@@ -11,9 +11,9 @@ use Rattle.book.proofs.book.Book.reckoned.Goals as goal
 pub returns : goal.returns
 returns g c =
     let judge = c.args.self.now.judge in
-    let plan = c.in-ok-plan.plan in
-    let place = c.in-ok-plan.place in
-    let found = c.in-ok-plan.ensures in
+    let plan = c.in_ok-plan.plan in
+    let place = c.in_ok-plan.place in
+    let found = c.in_ok-plan.ensures in
     let M = g.J.Judge.meaning judge in
     let N = g.J.MeasuringJudge.reckons judge in
     let Told : List SheetRow → ℕ → Type 0 = λ rows at.

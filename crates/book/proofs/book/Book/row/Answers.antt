@@ -10,9 +10,9 @@ pub returns : goal.returns
 returns g c =
     let book = c.args.self.now in
     let id = c.args.id in
-    let plan = c.in-ok-plan.plan in
-    let place = c.in-ok-plan.place in
-    let found = c.in-ok-plan.ensures in
+    let plan = c.in_ok-plan.plan in
+    let place = c.in_ok-plan.place in
+    let found = c.in_ok-plan.ensures in
     let row = get_or c.rows.result.now place blank in
     let is : row ≡ get_or (rows_of plan.sheet) place blank =
     ap (λ rows. get_or rows place blank) (c.rows.ensures.value ∙ ap rows_of c.sheet.ensures) in

@@ -53,8 +53,8 @@ unwrap-requires-2 c =
     c.loop-place-test.false c.loop-place.auto.place-end c.count.ensures)
     (none_from_sound _ c.requires.sound)
 
-pub invariant-of-result : goal.invariant-of-result
-invariant-of-result c =
+pub invariant_of-result : goal.invariant_of-result
+invariant_of-result c =
     let Kept : List SheetRow → Type 0 = NoneLate in (
       subst Kept
           (sym (sheet_holds _ _ c.form.result c.form.ensures.value

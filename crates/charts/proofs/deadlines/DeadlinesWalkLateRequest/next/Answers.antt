@@ -4,12 +4,12 @@ use Rattle.charts.proofs.deadlines.DeadlinesWalkLateRequest.next.Goals as goal
 
 pub returns-in-Some : goal.returns-in-Some
 returns-in-Some c =
-    gave_late c.args.self.now c.next-here.new.self c.in-Some.late
+    gave_late c.args.self.now c.next_here.new.self c.in-Some.late
     (found_on _ c.loop-self.self _ _ c.loop-self.invariant c.in-Some.ensures)
 
 pub loop-self-preserved : goal.loop-self-preserved
 loop-self-preserved c =
-    skipped_on _ _ _ c.loop-self.invariant (skipped_on _ _ _ c.in-default.ensures.0 c.next-tick.ensures.skipped)
+    skipped_on _ _ _ c.loop-self.invariant (skipped_on _ _ _ c.in_default.ensures.0 c.next_tick.ensures.skipped)
 
 pub returns : goal.returns
 returns c = ends c.args.self.now c.loop-self.self c.loop-self.invariant (omega (arith, c.tick.ensures, c.loop-self-test.false))

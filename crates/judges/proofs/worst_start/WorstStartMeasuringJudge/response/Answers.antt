@@ -23,8 +23,8 @@ loop-ticks-init c =
     rising_start c.rows-rows.result.now c.args.judged (has c.args.above.now) c.if-judged-rows.false c.from-ticks.result
     c.from-ticks.ensures
 
-pub work-in-work-requires : goal.work-in-work-requires
-work-in-work-requires c =
+pub work_in-work-requires : goal.work_in-work-requires
+work_in-work-requires c =
     let sound = c.rows-rows.ensures.sound in
     record {
       sound = sound;
@@ -40,12 +40,12 @@ pub returns-then-work-ticks : goal.returns-then-work-ticks
 returns-then-work-ticks c =
     settled_in_time c.rows-rows.result.now c.args.judged (has c.args.above.now) c.if-judged-rows.false c.loop-ticks.ticks
     (tasks_of c.args.case.now) (ap figures_given c.rows-rows.ensures.value) (starts_of c.args.case.now) c.loop-ticks.invariant
-    _ c.work-in-work.ensures c.if-work-ticks.true (omega (arith, c.loop-ticks-test.true, c.from-deadline.ensures))
+    _ c.work_in-work.ensures c.if-work-ticks.true (omega (arith, c.loop-ticks-test.true, c.from-deadline.ensures))
 
 pub loop-ticks-preserved : goal.loop-ticks-preserved
 loop-ticks-preserved c =
     rising_more c.rows-rows.result.now c.args.judged (has c.args.above.now) c.if-judged-rows.false c.loop-ticks.ticks
-    _ c.rows-rows.ensures.sound.fair c.work-in-work.ensures c.loop-ticks.invariant
+    _ c.rows-rows.ensures.sound.fair c.work_in-work.ensures c.loop-ticks.invariant
 
 pub returns : goal.returns
 returns c =

@@ -6,7 +6,7 @@ use Rattle.periods.specs.Rows.{periods_of}
 use Rattle.tasks.proofs.Loads.{takes_fair, answered}
 use Rattle.lateness.proofs.Gathered.{Gathered, fair_in, few_in, none_gathered, gathered_more, gathered_rest, common_answered, common_is}
 use Rattle.lateness.proofs.members.Members.common_period.Goals as goal
-use Rattle.lateness.proofs.members.Members.common_period.Goals.{in-Some, in-default}
+use Rattle.lateness.proofs.members.Members.common_period.Goals.{in-Some, in_default}
 
 pub loop-place-init : goal.loop-place-init
 loop-place-init c = none_gathered c.args.self.now _ c.new-periods.ensures
@@ -21,9 +21,9 @@ loop-place-preserved c =
           let taken = w.add.ensures.value ∙ takes_fair _ _ w.figures.ensures.fair (omega (arith, c.loop-place.invariant.few, few_in m, member.0)) in
           gathered_more m c.loop-place.place _ member.0 c.loop-place.invariant _ _
           (ap periods_of w.periods-is ∙ when_true _ _ taken w.add.ensures.after) (ap (λ f. f.period) figures)
-      | in-default w ↦
+      | in_default w ↦
           subst (Gathered m (c.loop-place.place + 1)) (sym (ap periods_of w.periods-is))
-          (gathered_rest m c.loop-place.place _ (omega (arith, c.loop-place-test.true, c.places-place-end.ensures)) c.loop-place.invariant w.in-default.ensures)
+          (gathered_rest m c.loop-place.place _ (omega (arith, c.loop-place-test.true, c.places-place-end.ensures)) c.loop-place.invariant w.in_default.ensures)
     ]
 
 pub unwrap-requires : goal.unwrap-requires

@@ -3,7 +3,7 @@ use Rattle.tasks.proofs.Placed.{start_short}
 use Rattle.lateness.specs.Members.{starts_in}
 use Rattle.lateness.proofs.Gathered.{members_more}
 use Rattle.lateness.proofs.members.Members.latest_start.Goals as goal
-use Rattle.lateness.proofs.members.Members.latest_start.Goals.{in-Some, in-default}
+use Rattle.lateness.proofs.members.Members.latest_start.Goals.{in-Some, in_default}
 
 pub loop-place-preserved : goal.loop-place-preserved
 loop-place-preserved c =
@@ -16,9 +16,9 @@ loop-place-preserved c =
             omega (arith, w.latest-is, start_short m.case.now c.loop-place.place member.0),
             members_more m _ c.loop-place.place (λ q l i e. omega (arith, w.latest-is, c.loop-place.invariant.1 q l i e)) (λ i e. omega (arith, w.latest-is)),
           )
-      | in-default w ↦ (
+      | in_default w ↦ (
         omega (arith, w.latest-is),
-        members_more m _ c.loop-place.place (λ q l i e. omega (arith, w.latest-is, c.loop-place.invariant.1 q l i e)) (λ i e. absurd (w.in-default.ensures i e)),
+        members_more m _ c.loop-place.place (λ q l i e. omega (arith, w.latest-is, c.loop-place.invariant.1 q l i e)) (λ i e. absurd (w.in_default.ensures i e)),
       )
     ]
 

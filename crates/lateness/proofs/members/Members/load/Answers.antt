@@ -5,10 +5,10 @@ use Rattle.timeline.proofs.Members.{counted}
 use Rattle.lateness.specs.Members.{tasks_in, is_member}
 use Rattle.lateness.proofs.Gathered.{load_more, load_rest, few_in}
 use Rattle.lateness.proofs.members.Members.load.Goals as goal
-use Rattle.lateness.proofs.members.Members.load.Goals.{in-Some, in-default}
+use Rattle.lateness.proofs.members.Members.load.Goals.{in-Some, in_default}
 
-pub overflow-add-load : goal.overflow-add-load
-overflow-add-load c =
+pub overflow_add-load : goal.overflow_add-load
+overflow_add-load c =
     let new = load_more c.args.self.now c.args.ticks c.loop-place.place c.requires _ c.loop-place.invariant c.in-Some.member c.in-Some.ensures _ _ _
     c.figures-figures.ensures.value c.from.ensures c.from-in-Some.ensures in
     omega (arith, c.loop-place-test.true, c.places-place-end.ensures, few_in c.args.self.now)
@@ -20,9 +20,9 @@ loop-place-preserved c =
           let new = load_more c.args.self.now c.args.ticks c.loop-place.place c.requires _ c.loop-place.invariant w.in-Some.member w.in-Some.ensures _ _ _
           w.figures-figures.ensures.value w.from.ensures w.from-in-Some.ensures in
           (w.load-is ∙ new.0, omega (arith, w.load-is))
-      | in-default w ↦
+      | in_default w ↦
           let new = load_rest c.args.self.now c.args.ticks c.loop-place.place c.requires _ c.loop-place.invariant
-          (omega (arith, c.loop-place-test.true, c.places-place-end.ensures)) w.in-default.ensures in
+          (omega (arith, c.loop-place-test.true, c.places-place-end.ensures)) w.in_default.ensures in
           (w.load-is ∙ new.0, omega (arith, w.load-is))
     ]
 

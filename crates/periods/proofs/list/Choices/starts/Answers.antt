@@ -20,28 +20,28 @@ place c =
     let all = digits_weight _ _ _ _ _ _ _ _ c.loop-place-test.true c.loop-place.invariant c.from-weight.ensures refl in
     (all.0, all.1, all.3)
 
-pub nonzero-div-weight : goal.nonzero-div-weight
-nonzero-div-weight c = (place c).0
+pub nonzero_div-weight : goal.nonzero_div-weight
+nonzero_div-weight c = (place c).0
 
-pub nonzero-div-starts : goal.nonzero-div-starts
-nonzero-div-starts c = (place c).1
+pub nonzero_div-starts : goal.nonzero_div-starts
+nonzero_div-starts c = (place c).1
 
-pub overflow-cast-starts : goal.overflow-cast-starts
-overflow-cast-starts c = let h = place (goal.at.overflow-cast-starts c).After-from-weight in search rules
+pub overflow_cast-starts : goal.overflow_cast-starts
+overflow_cast-starts c = let h = place (goal.at.overflow_cast-starts c).After-from-weight in search rules
 
-pub nonzero-rem-rest : goal.nonzero-rem-rest
-nonzero-rem-rest c = (place (goal.at.nonzero-rem-rest c).After-from-weight).1
+pub nonzero_rem-rest : goal.nonzero_rem-rest
+nonzero_rem-rest c = (place (goal.at.nonzero_rem-rest c).After-from-weight).1
 
 pub loop-place-preserved : goal.loop-place-preserved
 loop-place-preserved c =
     digits_more _ _ _ _ _ _ _ _ c.loop-place-test.true
-    (omega (arith, length-take (length c.as-slice.result.now) c.args.self.now.radix))
+    (omega (arith, length-take (length c.as_slice.result.now) c.args.self.now.radix))
     c.loop-place.invariant c.from-weight.ensures refl
 
 pub returns : goal.returns
 returns c =
     let choices = c.args.self.now in
-    let radices-are = ap (λ ts. take (length ts) choices.radix) c.as-slice.ensures.value ∙ choices.exact in
+    let radices-are = ap (λ ts. take (length ts) choices.radix) c.as_slice.ensures.value ∙ choices.exact in
     let is : c.loop-place.starts ≡ in_places (choice_of (listed_periods choices) c.args.rank) =
     digits_all _ _ _ _ _ _ (omega arith) c.loop-place.invariant ∙ ap (λ gs. in_places (digits gs c.args.rank)) radices-are in
     record { value = grind (arith, nat_tests, is, choices.counted); ranks = ranks_list_the_choices _ }

@@ -4,8 +4,8 @@ use Rattle.std.proofs.lemmas.List.{take_more_set, length-take-le}
 use Rattle.periods.proofs.Rows.{proper_more}
 use Rattle.periods.proofs.row.Periods.add.Goals as goal
 
-pub invariant-of-self : goal.invariant-of-self
-invariant-of-self c =
+pub invariant_of-self : goal.invariant_of-self
+invariant_of-self c =
     let room : c.args.self.now.count < length c.args.self.now.at = omega arith in
     (simp length-set (omega arith), (omega arith, (proper_more _ _ _ room c.args.self.now.proper (omega arith) (omega arith), tt)))
 

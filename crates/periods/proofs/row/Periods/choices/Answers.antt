@@ -20,48 +20,48 @@ answered :
 answered periods value =
     record { value = value; one = one_listed_choice _ periods.proper; number = choices_times_period _ }
 
-pub returns-in-err-common-period : goal.returns-in-err-common-period
-returns-in-err-common-period c =
-    let p = err_from_is_err_and c.from-residual.result c.from-residual.ensures.1 in
-    let refused = c.in-err-common-period.ensures.value in
+pub returns-in_err-common_period : goal.returns-in_err-common_period
+returns-in_err-common_period c =
+    let p = err_from_is_err_and c.from_residual.result c.from_residual.ensures.1 in
+    let refused = c.in_err-common_period.ensures.value in
     answered c.args.self.now (rw (p.1, p.2) (grind (arith, nat_tests, refused)))
 
 pub loop-place-init : goal.loop-place-init
-loop-place-init c = (radices_none _ _ c.as-slice-periods.ensures.proper refl, omega arith)
+loop-place-init c = (radices_none _ _ c.as_slice-periods.ensures.proper refl, omega arith)
 
 -- a radix divides its period
 small : (c : After-gcd-shared) → c.gcd-shared.result ≤ longest_period
 small c =
     let t = c.from-period.ensures in
-    let proper = c.as-slice-periods.ensures.proper c.loop-place.place c.loop-place-test.true in
+    let proper = c.as_slice-periods.ensures.proper c.loop-place.place c.loop-place-test.true in
     let divides = c.gcd-shared.ensures.greatest.divides_first in
     omega (arith, t, proper, divisor_le _ _ divides (omega (arith, t, proper)))
 
-pub overflow-mul-total : goal.overflow-mul-total
-overflow-mul-total c = omega (arith, mul-le _ _ most_choices longest_period c.loop-place.invariant.1 (small c))
+pub overflow_mul-total : goal.overflow_mul-total
+overflow_mul-total c = omega (arith, mul-le _ _ most_choices longest_period c.loop-place.invariant.1 (small c))
 
 -- with the radix of this place
 next :
     (c : After-gcd-shared) (l : ℕ) → l ≡ lcm c.loop-place.common c.from-period.result →
-    RadicesSoFar c.as-slice-periods.result.now (c.loop-place.place + 1) l
+    RadicesSoFar c.as_slice-periods.result.now (c.loop-place.place + 1) l
     (c.loop-place.total * c.gcd-shared.result) (set c.loop-place.radix c.loop-place.place c.gcd-shared.result)
 next c l is =
-    let slice = c.as-slice-periods.ensures in
+    let slice = c.as_slice-periods.ensures in
     radices_more _ _ _ _ _ _ _ l c.loop-place-test.true slice.few slice.proper c.loop-place.invariant.0
     c.from-period.ensures c.gcd-shared.ensures.value is
 
-pub returns-then-total-gt-MOST-CHOICES : goal.returns-then-total-gt-MOST-CHOICES
-returns-then-total-gt-MOST-CHOICES c =
-    let accepted = c.in-ok-common-period.ensures.value in
-    let slice = c.as-slice-periods.ensures in
+pub returns-then-total-gt-MOST_CHOICES : goal.returns-then-total-gt-MOST_CHOICES
+returns-then-total-gt-MOST_CHOICES c =
+    let accepted = c.in_ok-common_period.ensures.value in
+    let slice = c.as_slice-periods.ensures in
     let within =
     radices_within _ _ _ _ _ slice.proper
-    (next (goal.at.returns-then-total-gt-MOST-CHOICES c).After-gcd-shared _ refl) in
+    (next (goal.at.returns-then-total-gt-MOST_CHOICES c).After-gcd-shared _ refl) in
     answered c.args.self.now
     (grind (arith, nat_tests, accepted, within, ap number_of_choices slice.value))
 
-pub overflow-cast-radix : goal.overflow-cast-radix
-overflow-cast-radix c = omega (arith, small (goal.at.overflow-cast-radix c).After-gcd-shared)
+pub overflow_cast-radix : goal.overflow_cast-radix
+overflow_cast-radix c = omega (arith, small (goal.at.overflow_cast-radix c).After-gcd-shared)
 
 pub loop-place-preserved : goal.loop-place-preserved
 loop-place-preserved c =
@@ -70,16 +70,16 @@ loop-place-preserved c =
 all_places :
     (c : After-loop-place) → RadicesOf (periods_of c.args.self.now) c.loop-place.radix c.loop-place.total
 all_places c =
-    subst (λ ts. RadicesOf ts c.loop-place.radix c.loop-place.total) c.as-slice-periods.ensures.value
+    subst (λ ts. RadicesOf ts c.loop-place.radix c.loop-place.total) c.as_slice-periods.ensures.value
     (radices_all _ _ _ _ _ (omega arith) c.loop-place.invariant.0)
 
-pub invariant-of-result : goal.invariant-of-result
-invariant-of-result c =
-    let (exact, counted) = all_places (goal.at.invariant-of-result c).After-loop-place in
+pub invariant_of-result : goal.invariant_of-result
+invariant_of-result c =
+    let (exact, counted) = all_places (goal.at.invariant_of-result c).After-loop-place in
     (c.loop-place.invariant.0.width, (exact, (counted, (c.loop-place.invariant.1, tt))))
 
 pub returns : goal.returns
 returns c =
-    let accepted = c.in-ok-common-period.ensures.value in
+    let accepted = c.in_ok-common_period.ensures.value in
     let counted = (all_places (goal.at.returns c).After-loop-place).1 in
     answered c.args.self.now (grind (arith, nat_tests, accepted, counted), refl)

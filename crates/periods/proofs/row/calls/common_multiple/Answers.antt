@@ -8,10 +8,10 @@ step : (c : After-lcm-common) → MultipleSoFar c.args.periods.now (c.loop-perio
 step c =
     multiple_more _ _ _ _ _ (omega arith) c.requires c.loop-period.invariant.0 c.from.ensures c.lcm-common.ensures
 
-pub returns-then-common-gt-LONGEST-COMMON-PERIOD :
-    goal.returns-then-common-gt-LONGEST-COMMON-PERIOD
-returns-then-common-gt-LONGEST-COMMON-PERIOD c =
-    grind (arith, nat_tests, step (goal.at.returns-then-common-gt-LONGEST-COMMON-PERIOD c).After-lcm-common)
+pub returns-then-common-gt-LONGEST_COMMON_PERIOD :
+    goal.returns-then-common-gt-LONGEST_COMMON_PERIOD
+returns-then-common-gt-LONGEST_COMMON_PERIOD c =
+    grind (arith, nat_tests, step (goal.at.returns-then-common-gt-LONGEST_COMMON_PERIOD c).After-lcm-common)
 
 pub loop-period-init : goal.loop-period-init
 loop-period-init c = (multiple_none _ c.requires, omega arith)

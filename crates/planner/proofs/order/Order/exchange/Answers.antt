@@ -4,8 +4,8 @@ use Rattle.planner.specs.Positions.{place_in, position_in, LeadsBack}
 use Rattle.planner.proofs.Positions.{still_holds, still_has}
 use Rattle.planner.proofs.order.Order.exchange.Goals as goal
 
-pub invariant-of-self : goal.invariant-of-self
-invariant-of-self c =
+pub invariant_of-self : goal.invariant_of-self
+invariant_of-self c =
     let order = c.args.self.now in
     let n = order.count in
     let i = c.args.first in

@@ -3,8 +3,8 @@ use Rattle.planner.specs.Positions.{place_in, position_in}
 use Rattle.planner.proofs.Positions.{count_from, place_count, position_count}
 use Rattle.planner.proofs.order.Order.new.Goals as goal
 
-pub invariant-of-result : goal.invariant-of-result
-invariant-of-result c =
+pub invariant_of-result : goal.invariant_of-result
+invariant_of-result c =
     let few : c.min.result ≤ 8 = omega (arith, c.min.ensures) in (
       refl,
       (

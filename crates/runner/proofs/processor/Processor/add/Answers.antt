@@ -4,8 +4,8 @@ use Rattle.std.proofs.lemmas.List.{get_or-set_same, get_or-set_other}
 use Rattle.runner.proofs.Adding.{added-stands}
 use Rattle.runner.proofs.processor.Processor.add.Goals as goal
 
-pub invariant-of-self : goal.invariant-of-self
-invariant-of-self c =
+pub invariant_of-self : goal.invariant_of-self
+invariant_of-self c =
     let n = c.args.self.now.count in
     let w-room : n < length c.args.self.now.work = omega arith in
     let t-room : n < length c.args.self.now.period = omega arith in

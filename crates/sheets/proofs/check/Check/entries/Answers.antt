@@ -12,7 +12,7 @@ returns-in-Err c =
 
 pub loop-i-preserved : goal.loop-i-preserved
 loop-i-preserved c =
-    let here = rw sub-zero at c.in-default.ensures in
+    let here = rw sub-zero at c.in_default.ensures in
     sym (wrong_later _ c.args.rows.now _ _ c.loop-i-test.true (sym here)) ∙ c.loop-i.invariant
 
 pub returns : goal.returns

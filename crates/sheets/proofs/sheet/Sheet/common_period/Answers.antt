@@ -6,21 +6,21 @@ use Rattle.sheets.specs.Checks.{Sound}
 use Rattle.sheets.proofs.Held.{few_rows, fair_rows, period_answered}
 use Rattle.sheets.proofs.sheet.Sheet.common_period.Goals as goal
 
-pub periods-of-requires : goal.periods-of-requires
-periods-of-requires c =
+pub periods_of-requires : goal.periods_of-requires
+periods_of-requires c =
     let sound = c.rows.ensures.sound in
     record { few = few_rows _ sound; fair = fair_rows _ sound }
 
 pub unwrap-requires : goal.unwrap-requires
 unwrap-requires c =
-    let none = ap period_refusal c.periods-of.ensures ∙ period_answered _ c.rows.ensures.sound in
-    ap is_ok (c.common_period.ensures.value ∙ ap (λ refusal. answer refusal (common_period (periods_of c.periods-of.result))) none)
+    let none = ap period_refusal c.periods_of.ensures ∙ period_answered _ c.rows.ensures.sound in
+    ap is_ok (c.common_period.ensures.value ∙ ap (λ refusal. answer refusal (common_period (periods_of c.periods_of.result))) none)
 
 pub returns : goal.returns
 returns c =
-    let none = ap period_refusal c.periods-of.ensures ∙ period_answered _ c.rows.ensures.sound in
-    let is = c.common_period.ensures.value ∙ ap (λ refusal. answer refusal (common_period (periods_of c.periods-of.result))) none in
+    let none = ap period_refusal c.periods_of.ensures ∙ period_answered _ c.rows.ensures.sound in
+    let is = c.common_period.ensures.value ∙ ap (λ refusal. answer refusal (common_period (periods_of c.periods_of.result))) none in
     let value = c.unwrap.ensures in
-    let periods = c.periods-of.ensures in
+    let periods = c.periods_of.ensures in
     let rows = c.rows.ensures.value in
     cc

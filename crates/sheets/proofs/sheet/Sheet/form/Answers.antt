@@ -8,23 +8,23 @@ use Rattle.sheets.specs.declared.row.SheetRow.{SheetRow}
 use Rattle.sheets.proofs.Soundness.{few_from_none, sound_from_none, none_from_sound}
 use Rattle.sheets.proofs.sheet.Sheet.form.Goals as goal
 
-pub returns-in-err-check-rows : goal.returns-in-err-check-rows
-returns-in-err-check-rows c =
-    let exit = err_from_is_err_and c.from-residual.result c.from-residual.ensures.1 in
+pub returns-in_err-check_rows : goal.returns-in_err-check_rows
+returns-in_err-check_rows c =
+    let exit = err_from_is_err_and c.from_residual.result c.from_residual.ensures.1 in
     record {
-      value = rw (exit.1, exit.2) (sym c.in-err-check-rows.ensures);
+      value = rw (exit.1, exit.2) (sym c.in_err-check_rows.ensures);
       sound = (sound_from_none _, none_from_sound _);
     }
 
-pub slice-bounds-all-end : goal.slice-bounds-all-end
-slice-bounds-all-end c = few_from_none _ (sym c.in-ok-check-rows.ensures)
+pub slice_bounds-all-end : goal.slice_bounds-all-end
+slice_bounds-all-end c = few_from_none _ (sym c.in_ok-check_rows.ensures)
 
-pub invariant-of-result : goal.invariant-of-result
-invariant-of-result c =
+pub invariant_of-result : goal.invariant_of-result
+invariant_of-result c =
     let rows = c.args.rows.now in
-    let copied = c.copy-from-slice.ensures in
-    let none = sym c.in-ok-check-rows.ensures in
-    let stored = take_at c.copy-from-slice.new.self _ _ (ap length copied.after) ∙ copied.after in
+    let copied = c.copy_from_slice.ensures in
+    let none = sym c.in_ok-check_rows.ensures in
+    let stored = take_at c.copy_from_slice.new.self _ _ (ap length copied.after) ∙ copied.after in
     let blank : SheetRow = record { id = 0; figures = record { work = 0; period = 0; deadline = 0 }; start = 0; level = 0 } in (
       same_len_mid 0 (length rows - 0) (replicate most_tasks blank) _ copied.len,
       (few_from_none rows none, (ap (λ all. is_some (rows_fault all)) stored ∙ ap is_some none, tt)),
@@ -32,11 +32,11 @@ invariant-of-result c =
 
 pub returns : goal.returns
 returns c =
-    let copied = c.copy-from-slice.ensures in
+    let copied = c.copy_from_slice.ensures in
     record {
       value = (
-        sym c.in-ok-check-rows.ensures,
-        take_at c.copy-from-slice.new.self _ _ (ap length copied.after) ∙ copied.after,
+        sym c.in_ok-check_rows.ensures,
+        take_at c.copy_from_slice.new.self _ _ (ap length copied.after) ∙ copied.after,
       );
       sound = (sound_from_none _, none_from_sound _);
     }

@@ -5,11 +5,11 @@ use Rattle.sheets.proofs.sheet.Sheet.write.Goals as goal
 pub returns-then-out-length : goal.returns-then-out-length
 returns-then-out-length c =
     let given = c.rows-rows.ensures in
-    write_refused _ _ given.value given.sound c.args.out.now _ c.sheet-length-length.ensures c.if-out-length.true
+    write_refused _ _ given.value given.sound c.args.out.now _ c.sheet_length-length.ensures c.if-out-length.true
 
 pub returns : goal.returns
 returns c =
     let given = c.rows-rows.ensures in
-    write_done _ _ given.value given.sound c.args.out.now _ c.sheet-length-length.ensures
-    c.copy-from-slice.new.self c.write-tasks.new.out c.write-plans.new.out _ _ c.if-out-length.false
-    (c.copy-from-slice.ensures.after ∙ c.header.ensures) c.write-tasks.ensures c.write-plans.ensures (omega arith) (omega arith)
+    write_done _ _ given.value given.sound c.args.out.now _ c.sheet_length-length.ensures
+    c.copy_from_slice.new.self c.write_tasks.new.out c.write_plans.new.out _ _ c.if-out-length.false
+    (c.copy_from_slice.ensures.after ∙ c.header.ensures) c.write_tasks.ensures c.write_plans.ensures (omega arith) (omega arith)

@@ -8,8 +8,8 @@ loop-row-preserved c =
     let tasks = c.loop-row.tasks.now in
     let plans = c.loop-row.plans.now in
     let row =
-    row_from tasks plans _ _ _ _ c.from-be-bytes.ensures c.from-be-bytes-in-loop-row.ensures
-    c.from-be-bytes-in-loop-row-2.ensures c.from-be-bytes-in-loop-row-3.ensures in (
+    row_from tasks plans _ _ _ _ c.from_be_bytes.ensures c.from_be_bytes-in-loop-row.ensures
+    c.from_be_bytes-in-loop-row-2.ensures c.from_be_bytes-in-loop-row-3.ensures in (
       read_more c.loop-row.rows _ c.loop-row.row-index _ tasks plans _ _ _ (omega arith) c.loop-row-test.true
           row (take_rest tasks 7) (take_rest plans 3) c.loop-row.invariant.0,
       simp (take_rest, length-drop) (omega arith),

@@ -5,8 +5,8 @@ use Rattle.sheets.proofs.sheet.write.write_tasks.Goals as goal
 
 pub loop-i-preserved : goal.loop-i-preserved
 loop-i-preserved c =
-    let is = c.copy-from-slice.ensures.after ∙ c.task-entry.ensures in
-    written_more task_entry c.args.rows.now _ _ c.loop-i.out c.copy-from-slice.new.self _ _ _ c.loop-i-test.true
+    let is = c.copy_from_slice.ensures.after ∙ c.task_entry.ensures in
+    written_more task_entry c.args.rows.now _ _ c.loop-i.out c.copy_from_slice.new.self _ _ _ c.loop-i-test.true
     is (omega (arith, ap length is)) (omega arith) c.loop-i.invariant
 
 pub returns : goal.returns

@@ -9,13 +9,13 @@ pub loop-fault-init : goal.loop-fault-init
 unfolding first_fault_in
 loop-fault-init c = refl
 
-pub returns-then-any-breaks : goal.returns-then-any-breaks
-returns-then-any-breaks c =
-    sym (first_here _ faults _ NoWork c.loop-fault-test.true (sym c.if-any-breaks.ensures)) ∙ c.loop-fault.invariant
+pub returns-then-any_breaks : goal.returns-then-any_breaks
+returns-then-any_breaks c =
+    sym (first_here _ faults _ NoWork c.loop-fault-test.true (sym c.if-any_breaks.ensures)) ∙ c.loop-fault.invariant
 
 pub loop-fault-preserved : goal.loop-fault-preserved
 loop-fault-preserved c =
-    sym (first_later _ faults _ NoWork c.loop-fault-test.true (sym c.if-any-breaks.ensures)) ∙ c.loop-fault.invariant
+    sym (first_later _ faults _ NoWork c.loop-fault-test.true (sym c.if-any_breaks.ensures)) ∙ c.loop-fault.invariant
 
 pub returns : goal.returns
 returns c = sym (first_none _ faults _ c.loop-fault-test.false) ∙ c.loop-fault.invariant

@@ -4,6 +4,6 @@ use Rattle.std.proofs.lemmas.Bool.{le-ltb}
 use Rattle.tasks.proofs.places.Places.contains.Goals as goal
 
 -- past the eighth place a set has none
-pub returns-else-place-lt-MOST-TASKS : goal.returns-else-place-lt-MOST-TASKS
-returns-else-place-lt-MOST-TASKS c =
+pub returns-else-place-lt-MOST_TASKS : goal.returns-else-place-lt-MOST_TASKS
+returns-else-place-lt-MOST_TASKS c =
     le-ltb c.args.place 8 (omega arith) ∙ sym (get_or_past c.args.self.now.has c.args.place false (omega arith))

@@ -6,10 +6,10 @@ use Rattle.tasks.proofs.Found.{stands_here}
 use Rattle.tasks.proofs.Stored.{amended_stored}
 use Rattle.tasks.proofs.table.Table.amend.Goals as goal
 
-pub invariant-of-self : goal.invariant-of-self
-invariant-of-self c =
+pub invariant_of-self : goal.invariant_of-self
+invariant_of-self c =
     let table = c.args.self.now in
-    let found = c.in-ok-at.ensures in (
+    let found = c.in_ok-at.ensures in (
       length-set table.rows _ _ ∙ table.width,
       (
         table.few,
@@ -24,8 +24,8 @@ invariant-of-self c =
 pub returns : goal.returns
 returns c =
     let table = c.args.self.now in
-    let found = c.in-ok-at.ensures in
-    let formed = c.in-ok-task.ensures.cases in
+    let found = c.in_ok-at.ensures in
+    let formed = c.in_ok-task.ensures.cases in
     let same = c.figures.ensures.value ∙ formed.1 in
     let stored =
     amended_stored table.rows _ _ _ _ refl found.1 (omega arith)

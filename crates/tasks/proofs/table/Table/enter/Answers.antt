@@ -9,15 +9,15 @@ use Rattle.tasks.proofs.Found.{stands_not, positive}
 use Rattle.tasks.proofs.Stored.{entered_stored}
 use Rattle.tasks.proofs.table.Table.enter.Goals as goal
 
-pub invariant-of-self : goal.invariant-of-self
-invariant-of-self c =
+pub invariant_of-self : goal.invariant_of-self
+invariant_of-self c =
     let table = c.args.self.now in
-    let gap = c.in-ok-at.ensures in
-    let put = c.put-in in
+    let gap = c.in_ok-at.ensures in
+    let put = c.put_in in
     let new = row_of c.args.id c.figures.result in (
       same_len_mid 0 _ _ _ put.auto.rows ∙ table.width,
       (
-        omega (arith, table.few, c.if-self-eq-MOST-TASKS.false),
+        omega (arith, table.few, c.if-self-eq-MOST_TASKS.false),
         (
           ap (tidy 1) (entered_stored table.rows _ _ _ new _ _ refl gap.1 (omega arith) put.auto.rows put.ensures)
               ∙ tidy-entered new 1 (take table.count table.rows) (positive _ _ gap.0)
@@ -30,13 +30,13 @@ invariant-of-self c =
 pub returns : goal.returns
 returns c =
     let table = c.args.self.now in
-    let gap = c.in-ok-at.ensures in
-    let put = c.put-in in
-    let formed = c.in-ok-task.ensures.cases in
+    let gap = c.in_ok-at.ensures in
+    let put = c.put_in in
+    let formed = c.in_ok-task.ensures.cases in
     let same = c.figures.ensures.value ∙ formed.1 in
     let new = row_of c.args.id c.figures.result in
     let room : length (take table.count table.rows) < most_tasks =
-    omega (arith, table.few, c.if-self-eq-MOST-TASKS.false, length-take table.count table.rows) in
+    omega (arith, table.few, c.if-self-eq-MOST_TASKS.false, length-take table.count table.rows) in
     let stored =
     entered_stored table.rows _ _ _ new _ _ refl gap.1 (omega arith) put.auto.rows put.ensures
     ∙ ap (λ figures. entered (row_of c.args.id figures) (take table.count table.rows)) same in

@@ -3,5 +3,5 @@ use Rattle.tasks.proofs.table.Table.place.Goals as goal
 
 pub returns : goal.returns
 returns c =
-    let found = c.in-ok-at.ensures in
+    let found = c.in_ok-at.ensures in
     rw (found.0, place_of_here _ _ _ found.1)

@@ -5,11 +5,11 @@ use Rattle.tasks.proofs.Changes.{tidy-struck, figures_of-struck}
 use Rattle.tasks.proofs.Stored.{struck_stored}
 use Rattle.tasks.proofs.table.Table.strike.Goals as goal
 
-pub invariant-of-self : goal.invariant-of-self
-invariant-of-self c =
+pub invariant_of-self : goal.invariant_of-self
+invariant_of-self c =
     let table = c.args.self.now in
-    let found = c.in-ok-at.ensures in
-    let out = c.take-out in (
+    let found = c.in_ok-at.ensures in
+    let out = c.take_out in (
       same_len_mid 0 _ _ _ out.auto.rows ∙ table.width,
       (
         omega (arith, table.few),
@@ -24,8 +24,8 @@ invariant-of-self c =
 pub returns : goal.returns
 returns c =
     let table = c.args.self.now in
-    let found = c.in-ok-at.ensures in
-    let out = c.take-out in
+    let found = c.in_ok-at.ensures in
+    let out = c.take_out in
     let stored = struck_stored table.rows _ _ _ _ _ found.1 (omega arith) out.auto.rows out.ensures in
     record {
       updated = rw found.0 (refl, stored);

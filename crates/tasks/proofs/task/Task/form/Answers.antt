@@ -19,8 +19,8 @@ pub loop-fault-preserved : goal.loop-fault-preserved
 loop-fault-preserved c =
     sym (first_later _ faults _ NoWork c.loop-fault-test.true (sym c.if-breaks.ensures)) ∙ c.loop-fault.invariant
 
-pub invariant-of-result : goal.invariant-of-result
-invariant-of-result c = (fair_from_none _ (sym c.loop-fault.invariant ∙ first_none _ faults _ c.loop-fault-test.false), tt)
+pub invariant_of-result : goal.invariant_of-result
+invariant_of-result c = (fair_from_none _ (sym c.loop-fault.invariant ∙ first_none _ faults _ c.loop-fault-test.false), tt)
 
 pub returns : goal.returns
 returns c =
