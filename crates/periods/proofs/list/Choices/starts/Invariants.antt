@@ -1,5 +1,5 @@
 use Rattle.periods.proofs.Places.{DigitsSoFar}
 use Rattle.periods.proofs.list.Choices.starts.Given as goal
 
-abbrev pub Inv-loop-place : goal.invariant-loop-place
-Inv-loop-place l = DigitsSoFar l.radices l.rank l.place l.rest l.weight l.starts
+abbrev pub invariant-loop-place : goal.invariant-loop-place
+invariant-loop-place l = DigitsSoFar l.radices l.rank l.place l.rest l.weight l.starts

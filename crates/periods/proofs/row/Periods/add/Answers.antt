@@ -7,7 +7,11 @@ use Rattle.periods.proofs.row.Periods.add.Goals as goal
 pub invariant_of-self : goal.invariant_of-self
 invariant_of-self c =
     let room : c.args.self.now.count < length c.args.self.now.at = omega arith in
-    (simp length-set (omega arith), (omega arith, (proper_more _ _ _ room c.args.self.now.proper (omega arith) (omega arith), tt)))
+    record {
+      width = simp length-set (omega arith);
+      few = omega arith;
+      proper = proper_more _ _ _ room c.args.self.now.proper (omega arith) (omega arith);
+    }
 
 pub returns : goal.returns
 returns c =

@@ -76,7 +76,7 @@ all_places c =
 pub invariant_of-result : goal.invariant_of-result
 invariant_of-result c =
     let (exact, counted) = all_places (goal.at.invariant_of-result c).After-loop-place in
-    (c.loop-place.invariant.0.width, (exact, (counted, (c.loop-place.invariant.1, tt))))
+    record { width = c.loop-place.invariant.0.width; exact = exact; counted = counted; few = c.loop-place.invariant.1 }
 
 pub returns : goal.returns
 returns c =
