@@ -55,15 +55,14 @@ unwrap-requires-2 c =
 
 pub invariant_of-result : goal.invariant_of-result
 invariant_of-result c =
-    let Kept : List SheetRow → Type 0 = NoneLate in (
-      subst Kept
+    let Kept : List SheetRow → Type 0 = NoneLate in record {
+      in_time = subst Kept
           (sym (sheet_holds _ _ c.form.result c.form.ensures.value
           (filled c.args.table.now c.args.plan.now _ c.rows-row-items.ensures.value _ _ _ c.loop-place.invariant.1
           c.loop-place-test.false c.loop-place.auto.place-end c.count.ensures)
           c.unwrap-2.result c.unwrap-2.ensures))
-          c.requires.in_time,
-      tt,
-    )
+          c.requires.in_time;
+    }
 
 pub returns : goal.returns
 returns c =

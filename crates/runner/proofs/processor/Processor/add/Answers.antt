@@ -10,24 +10,16 @@ invariant_of-self c =
     let w-room : n < length c.args.self.now.work = omega arith in
     let t-room : n < length c.args.self.now.period = omega arith in
     let n_room : n < length c.args.self.now.next = omega arith in
-    let unused = c.args.self.now.empty n (omega arith) in (
-      (simp length-set (omega arith), simp length-set (omega arith), simp length-set (omega arith), omega arith),
-      (
-        omega arith,
-        (
-          omega arith,
-          (
-            below_more _ _ (λ l h. let ne : l ≢ n = omega arith in simp get_or-set_other (c.args.self.now.rated l h))
-                (simp get_or-set_same (omega arith, omega arith, omega arith)),
-            (
-              below_more _ _ (λ l h. let ne : l ≢ n = omega arith in simp get_or-set_other (c.args.self.now.awaited l h))
-                  (simp get_or-set_same (omega arith, omega arith, omega arith)),
-              (λ l h. let ne : l ≢ n = omega arith in simp get_or-set_other (c.args.self.now.empty l (omega arith)), tt),
-            ),
-          ),
-        ),
-      ),
-    )
+    let unused = c.args.self.now.empty n (omega arith) in record {
+      width = (simp length-set (omega arith), simp length-set (omega arith), simp length-set (omega arith), omega arith);
+      few = omega arith;
+      bounded = omega arith;
+      rated = below_more _ _ (λ l h. let ne : l ≢ n = omega arith in simp get_or-set_other (c.args.self.now.rated l h))
+                (simp get_or-set_same (omega arith, omega arith, omega arith));
+      awaited = below_more _ _ (λ l h. let ne : l ≢ n = omega arith in simp get_or-set_other (c.args.self.now.awaited l h))
+                  (simp get_or-set_same (omega arith, omega arith, omega arith));
+      empty = λ l h. let ne : l ≢ n = omega arith in simp get_or-set_other (c.args.self.now.empty l (omega arith));
+    }
 
 pub returns : goal.returns
 returns c =

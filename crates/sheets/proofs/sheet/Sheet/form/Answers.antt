@@ -25,10 +25,11 @@ invariant_of-result c =
     let copied = c.copy_from_slice.ensures in
     let none = sym c.in_ok-check_rows.ensures in
     let stored = take_at c.copy_from_slice.new.self _ _ (ap length copied.after) ∙ copied.after in
-    let blank : SheetRow = record { id = 0; figures = record { work = 0; period = 0; deadline = 0 }; start = 0; level = 0 } in (
-      same_len_mid 0 (length rows - 0) (replicate most_tasks blank) _ copied.len,
-      (few_from_none rows none, (ap (λ all. is_some (rows_fault all)) stored ∙ ap is_some none, tt)),
-    )
+    let blank : SheetRow = record { id = 0; figures = record { work = 0; period = 0; deadline = 0 }; start = 0; level = 0 } in record {
+      width = same_len_mid 0 (length rows - 0) (replicate most_tasks blank) _ copied.len;
+      few = few_from_none rows none;
+      sound = ap (λ all. is_some (rows_fault all)) stored ∙ ap is_some none;
+    }
 
 pub returns : goal.returns
 returns c =

@@ -24,19 +24,13 @@ invariant_of-result c =
     let sound = sound_from_none rows (none_from_ok (case_refusal rows) c.in_ok-check.ensures) in
     let stored = take_at c.copy_from_slice.new.self _ _ (ap length copied.after) ∙ copied.after in
     let short : List Timed → Type 0 = λ all. common_period (periods_in (figures_given all)) ≤ longest_common_period in
-    let none : Timed = record { figures = record { work = 0; period = 0; deadline = 0 }; start = 0 } in (
-      same_len_mid 0 (length rows - 0) (replicate most_tasks none) _ copied.len,
-      (
-        sound.some,
-        (
-          sound.few,
-          (
-            ap are_timely stored ∙ (decides_timely rows).1 (all_timely rows sound.fair sound.timely),
-            (subst short (sym stored) sound.short, tt),
-          ),
-        ),
-      ),
-    )
+    let none : Timed = record { figures = record { work = 0; period = 0; deadline = 0 }; start = 0 } in record {
+      width = same_len_mid 0 (length rows - 0) (replicate most_tasks none) _ copied.len;
+      some = sound.some;
+      few = sound.few;
+      timely = ap are_timely stored ∙ (decides_timely rows).1 (all_timely rows sound.fair sound.timely);
+      short = subst short (sym stored) sound.short;
+    }
 
 pub returns : goal.returns
 returns c =

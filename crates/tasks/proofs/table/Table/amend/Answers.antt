@@ -9,17 +9,12 @@ use Rattle.tasks.proofs.table.Table.amend.Goals as goal
 pub invariant_of-self : goal.invariant_of-self
 invariant_of-self c =
     let table = c.args.self.now in
-    let found = c.in_ok-at.ensures in (
-      length-set table.rows _ _ ∙ table.width,
-      (
-        table.few,
-        (
-          ap (tidy 1) (amended_stored table.rows _ _ _ _ refl found.1 (omega arith))
-              ∙ tidy-amended (row_of _ c.figures.result) 1 (take table.count table.rows) (test_from_fair _ c.figures.ensures.fair) table.tidy,
-          tt,
-        ),
-      ),
-    )
+    let found = c.in_ok-at.ensures in record {
+      width = length-set table.rows _ _ ∙ table.width;
+      few = table.few;
+      tidy = ap (tidy 1) (amended_stored table.rows _ _ _ _ refl found.1 (omega arith))
+          ∙ tidy-amended (row_of _ c.figures.result) 1 (take table.count table.rows) (test_from_fair _ c.figures.ensures.fair) table.tidy;
+    }
 
 pub returns : goal.returns
 returns c =

@@ -14,18 +14,13 @@ invariant_of-self c =
     let table = c.args.self.now in
     let gap = c.in_ok-at.ensures in
     let put = c.put_in in
-    let new = row_of c.args.id c.figures.result in (
-      same_len_mid 0 _ _ _ put.auto.rows ∙ table.width,
-      (
-        omega (arith, table.few, c.if-self-eq-MOST_TASKS.false),
-        (
-          ap (tidy 1) (entered_stored table.rows _ _ _ new _ _ refl gap.1 (omega arith) put.auto.rows put.ensures)
-              ∙ tidy-entered new 1 (take table.count table.rows) (positive _ _ gap.0)
-              (test_from_fair _ c.figures.ensures.fair) (stands_not _ _ _ gap.1) table.tidy,
-          tt,
-        ),
-      ),
-    )
+    let new = row_of c.args.id c.figures.result in record {
+      width = same_len_mid 0 _ _ _ put.auto.rows ∙ table.width;
+      few = omega (arith, table.few, c.if-self-eq-MOST_TASKS.false);
+      tidy = ap (tidy 1) (entered_stored table.rows _ _ _ new _ _ refl gap.1 (omega arith) put.auto.rows put.ensures)
+          ∙ tidy-entered new 1 (take table.count table.rows) (positive _ _ gap.0)
+          (test_from_fair _ c.figures.ensures.fair) (stands_not _ _ _ gap.1) table.tidy;
+    }
 
 pub returns : goal.returns
 returns c =

@@ -9,17 +9,12 @@ pub invariant_of-self : goal.invariant_of-self
 invariant_of-self c =
     let table = c.args.self.now in
     let found = c.in_ok-at.ensures in
-    let out = c.take_out in (
-      same_len_mid 0 _ _ _ out.auto.rows ∙ table.width,
-      (
-        omega (arith, table.few),
-        (
-          ap (tidy 1) (struck_stored table.rows _ _ _ _ _ found.1 (omega arith) out.auto.rows out.ensures)
-              ∙ tidy-struck c.args.id 1 (take table.count table.rows) table.tidy,
-          tt,
-        ),
-      ),
-    )
+    let out = c.take_out in record {
+      width = same_len_mid 0 _ _ _ out.auto.rows ∙ table.width;
+      few = omega (arith, table.few);
+      tidy = ap (tidy 1) (struck_stored table.rows _ _ _ _ _ found.1 (omega arith) out.auto.rows out.ensures)
+          ∙ tidy-struck c.args.id 1 (take table.count table.rows) table.tidy;
+    }
 
 pub returns : goal.returns
 returns c =

@@ -20,7 +20,9 @@ loop-fault-preserved c =
     sym (first_later _ faults _ NoWork c.loop-fault-test.true (sym c.if-breaks.ensures)) ∙ c.loop-fault.invariant
 
 pub invariant_of-result : goal.invariant_of-result
-invariant_of-result c = (fair_from_none _ (sym c.loop-fault.invariant ∙ first_none _ faults _ c.loop-fault-test.false), tt)
+invariant_of-result c = record {
+  fair = fair_from_none _ (sym c.loop-fault.invariant ∙ first_none _ faults _ c.loop-fault-test.false);
+}
 
 pub returns : goal.returns
 returns c =
