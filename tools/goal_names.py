@@ -10,7 +10,7 @@ import re
 import sys
 
 TOKEN = re.compile(r"[A-Za-z0-9_']+(?:-[A-Za-z0-9_']+)+")
-WORDS = ["in-err", "in-ok", "in-default", "invariant-of", "slice-bounds", "offset-bounds", "from-residual"]
+WORDS = ["type-inv", "in-err", "in-ok", "in-default", "invariant-of", "slice-bounds", "offset-bounds", "from-residual"]
 WORDS += ["overflow-" + word for word in ("add", "sub", "mul", "shl", "shr", "cast", "neg", "step")]
 WORDS += ["nonzero-div", "nonzero-rem"]
 

@@ -15,9 +15,9 @@ invariant_of-self c =
       few = omega arith;
       bounded = omega arith;
       rated = below_more _ _ (λ l h. let ne : l ≢ n = omega arith in simp get_or-set_other (c.args.self.now.rated l h))
-                (simp get_or-set_same (omega arith, omega arith, omega arith));
+          (simp get_or-set_same (omega arith, omega arith, omega arith));
       awaited = below_more _ _ (λ l h. let ne : l ≢ n = omega arith in simp get_or-set_other (c.args.self.now.awaited l h))
-                  (simp get_or-set_same (omega arith, omega arith, omega arith));
+          (simp get_or-set_same (omega arith, omega arith, omega arith));
       empty = λ l h. let ne : l ≢ n = omega arith in simp get_or-set_other (c.args.self.now.empty l (omega arith));
     }
 

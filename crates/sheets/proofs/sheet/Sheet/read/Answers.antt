@@ -20,7 +20,7 @@ returns c =
     let bytes = c.args.bytes.now in
     let header = c.in_ok-count.ensures in
     let parts = c.split_at.ensures in
-    read_rows bytes _ c.form.result (All-from_get_or (λ byte. byte < 256) bytes 0 (λ i inside. let fits = c.type-inv.bytes i in omega arith))
+    read_rows bytes _ c.form.result (All-from_get_or (λ byte. byte < 256) bytes 0 (λ i inside. let fits = c.type_inv.bytes i in omega arith))
     header.right
     (rows_told _ c.read_rows.new.rows _ _ _ (sub-zero _) header.few bytes _ _ header.told parts.front parts.back c.read_rows.ensures)
     c.form.ensures.value
