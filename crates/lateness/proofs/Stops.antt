@@ -1,5 +1,6 @@
 -- A level while a processor runs on.
-use Rattle.std.proofs.Common.{◌≡◌, ℕ, zero, suc, ◌+◌, ◌-◌, ◌<◌, ◌≤◌, Bool, true, false, cond, ◌⊎◌, Some, None, Decides, Option, sym, refl, ap, ◌∙◌, subst, inl, inr, add-zero, add-suc, arith, MatchOption}
+use Rattle.std.proofs.Common.{◌≡◌, ◌==◌, ℕ, zero, suc, ◌+◌, ◌-◌, ◌<◌, ◌≤◌, Bool, true, false, cond, ◌⊎◌, Some, None, Option, sym, refl, ap, ◌∙◌, subst, inl, inr, add-zero, add-suc, arith}
+use Rattle.std.specs.Option.{option_eq}
 use Rattle.std.proofs.lemmas.Bool.Decides.{nat_tests}
 use Rattle.std.proofs.lemmas.Bool.{cases_lt, cases_order}
 use Rattle.timeline.specs.Processor.{Demands, sum_below, ready, runs, done}
@@ -101,10 +102,10 @@ module _ (p₀ : Processor) (level tick : ℕ) (p q : Processor) (end : ℕ) (sp
       goes_on tick (λ D s. stopped_before D level p₀.tick tick p q end span ran (so_far.stands D s) other (so_far.stopped D s))
 
 -- a test for the level that ran
-pub is_level : (chosen : Option ℕ) (level : ℕ) → MatchOption chosen (◌≡◌ {A = Bool} true false) (λ x. Decides true (x ≡ level)) → chosen ≡ Some level
-is_level (Some x) level same = ap Some (same.0 refl)
+pub is_level : (chosen : Option ℕ) (level : ℕ) → true ≡ option_eq (λ a b. a == b) chosen (Some level) → chosen ≡ Some level
+is_level (Some x) level same = let e : x ≡ level = grind (arith, nat_tests, same) in ap Some e
 is_level None level same = absurd (let z : ◌≡◌ {A = ℕ} 0 1 = cc in omega arith)
 
-pub not_level : (chosen : Option ℕ) (level : ℕ) → MatchOption chosen (◌≡◌ {A = Bool} false false) (λ x. Decides false (x ≡ level)) → chosen ≡ Some level → ⊥
-not_level (Some x) level other e = let z : ◌≡◌ {A = Bool} false true = other.1 (cc) in let z' : ◌≡◌ {A = ℕ} 0 1 = cc in omega arith
+pub not_level : (chosen : Option ℕ) (level : ℕ) → false ≡ option_eq (λ a b. a == b) chosen (Some level) → chosen ≡ Some level → ⊥
+not_level (Some x) level other e = let same : x ≡ level = cc in grind (arith, nat_tests, other, same)
 not_level None level other e = let z : ◌≡◌ {A = ℕ} 0 1 = cc in omega arith
