@@ -1,5 +1,5 @@
 -- The margin's way to the stretched case.
-use Rattle.std.proofs.Common.{◌≡◌, ℕ, ◌+◌, ◌*◌, ◌<◌, ◌≤◌, Bool, true, false, cond, List, map, length, get_or, None, Ok, Err, Result, sym, refl, ap, ◌∙◌, subst, mul-le-mul_right, mul-le-mul_left, arith}
+use Rattle.std.proofs.Common.{◌≡◌, ℕ, ◌+◌, ◌*◌, ◌<◌, ◌≤◌, Bool, true, false, cond, List, map, length, get_or, Some, None, Ok, Err, Option, Result, sym, refl, ap, ◌∙◌, subst, mul-le-mul_right, mul-le-mul_left, arith}
 use lib.ListN.{length-map}
 use Rattle.std.specs.List.{range_with_len}
 use Rattle.std.specs.Result.{result_ok}
@@ -18,7 +18,8 @@ use Rattle.tasks.specs.Loads.{periods_in}
 use Rattle.tasks.specs.Timed.{Sound, figures_given, case_refusal}
 use Rattle.timeline.specs.Laws.{AllFair}
 use Rattle.timeline.specs.Timeline.{task_at}
-use Rattle.judges.specs.Margin.{largest_margin, concerns, stretched_task, stretched, StretchFits, StretchedCase}
+use Rattle.judges.specs.Margin.{largest_margin, concerns, stretched_task, stretched, StretchFits, StretchedCase, WithMargin, ReckonsWithMargin}
+use Rattle.judges.specs.Meaning.{Meaning, Reckoning, Rules, Tells}
 use Rattle.judges.specs.MarginLaws.{length-stretched, stretched_concerned, stretched_fair, periods_stretched}
 use Rattle.judges.proofs.Rows.{blank, task_of_row, tasks_fair}
 
@@ -122,3 +123,33 @@ case_formed percent case judged above rows given (Err refusal) same sound as-giv
     let none = both.1 (subst Sound (sym as-given) (sound_if_fits percent rows judged above sound fits')) in
     let z : ◌≡◌ {A = ℕ} 0 1 = cc in
     omega arith
+
+-- what the judge below says of the stretched tasks, it says of these with the margin
+module _
+    (percent : ℕ) (M : Meaning) (tasks changed : List Figures) (starts same_starts : ℕ → ℕ) (judged : ℕ) (above : ℕ → Bool)
+    (fits : StretchFits percent tasks judged above) (is : changed ≡ stretched percent tasks judged above) (same : same_starts ≡ starts) where
+  means : M changed same_starts judged above → WithMargin percent M tasks starts judged above
+  means holds =
+      let At : List Figures → Type 0 = λ all. M all same_starts judged above in
+      let From : (ℕ → ℕ) → Type 0 = λ all. M (stretched percent tasks judged above) all judged above in
+      (fits, subst From same (subst At is holds))
+
+  meant : WithMargin percent M tasks starts judged above → M changed same_starts judged above
+  meant holds =
+      let At : List Figures → Type 0 = λ all. M all same_starts judged above in
+      let From : (ℕ → ℕ) → Type 0 = λ all. M (stretched percent tasks judged above) all judged above in
+      subst At (sym is) (subst From (sym same) holds.1)
+
+  pub ruled_with_margin :
+      (ruled : Bool) → Rules ruled (M changed same_starts judged above) → Rules ruled (WithMargin percent M tasks starts judged above)
+  ruled_with_margin true holds = means holds
+  ruled_with_margin false not = λ holds. not (meant holds)
+
+  pub told_with_margin :
+      (N : Reckoning) (told : Option ℕ) → Tells told (M changed same_starts judged above) (N changed same_starts judged above) →
+      Tells told (WithMargin percent M tasks starts judged above) (ReckonsWithMargin percent N tasks starts judged above)
+  told_with_margin N (Some n) reckoned =
+      let At : List Figures → Type 0 = λ all. N all same_starts judged above n in
+      let From : (ℕ → ℕ) → Type 0 = λ all. N (stretched percent tasks judged above) all judged above n in
+      (fits, subst From same (subst At is reckoned))
+  told_with_margin N None not = λ holds. not (meant holds)
