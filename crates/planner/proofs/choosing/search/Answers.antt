@@ -17,8 +17,8 @@ returns-in_err-case g c =
     (omega (arith, table.few, length-take table.count table.rows)) (fair_from_tidy 1 (rows_of table) table.tidy)
     listed.0 below c.in-Some.starts _ chosen c.in_err-case.ensures)
 
-pub choices_preserved : goal.choices_preserved
-choices_preserved g c =
+pub choices-preserved : goal.choices-preserved
+choices-preserved g c =
     let judge = c.args.judge.now in
     let table = c.args.table.now in
     let listed = c.in_ok-choices.ensures.value in

@@ -9,11 +9,11 @@ invariant_of-result c =
       width = refl;
       few = few;
       holds = λ k below.
-              let here = place_count 8 k (omega arith) in
-              (omega (arith, here), ap (position_in (count_from 0 8)) here ∙ position_count 8 k (omega arith));
+          let here = place_count 8 k (omega arith) in
+          (omega (arith, here), ap (position_in (count_from 0 8)) here ∙ position_count 8 k (omega arith));
       has = λ place below.
-                let here = position_count 8 place (omega arith) in
-                (omega (arith, here), ap (place_in (count_from 0 8)) here ∙ place_count 8 place (omega arith));
+          let here = position_count 8 place (omega arith) in
+          (omega (arith, here), ap (place_in (count_from 0 8)) here ∙ place_count 8 place (omega arith));
     }
 
 pub returns : goal.returns
