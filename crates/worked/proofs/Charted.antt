@@ -1,7 +1,7 @@
 -- Who runs, computed tick by tick, and charts tested against it.
 use Rattle.std.proofs.Common.{◌≡◌, ℕ, suc, ◌+◌, ◌-◌, ◌<◌, ◌≤◌, Bool, true, cond, not, ◌&&◌, eqb, ltb, leb, List, [], ◌∷◌, length, sym, refl, ap, ◌∙◌, arith}
 use Rattle.std.proofs.lemmas.Bool.Decides.{nat_tests}
-use Rattle.std.proofs.lemmas.Bool.{and_parts, not_true, ltb-true, leb-true, eqb-true, eqb-false, lt-ltb}
+use Rattle.std.proofs.lemmas.Bool.{and_parts, not-true, ltb-true, leb-true, eqb-true, eqb-false, lt-ltb}
 use Rattle.tasks.specs.declared.figures.Figures.{Figures}
 use Rattle.timeline.specs.Processor.{sum_below, owing, ready, runs}
 use Rattle.timeline.specs.Timeline.{demanded, demands}
@@ -96,7 +96,7 @@ module _ (shows computed : ℕ → ℕ) (told : (tick : ℕ) → shows tick ≡ 
       longest more e =
           let next = has_id computed from to bar (from + bar.length) in
           let other = implied (ltb (from + bar.length) to) (not next) (holds (bar_tests computed from to bar) test 4) (lt-ltb (from + bar.length) to more) in
-          eqb-false (computed (from + bar.length)) bar.id (not_true next other) (sym (told (from + bar.length)) ∙ e)
+          eqb-false (computed (from + bar.length)) bar.id (not-true next other) (sym (told (from + bar.length)) ∙ e)
 
   pub is_chart : (from to : ℕ) (bars : List Bar) → charts computed from to bars ≡ true → IsChart shows from to bars
   is_chart from to [] test = eqb-true from to test

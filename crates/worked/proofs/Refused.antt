@@ -3,12 +3,12 @@ use Rattle.std.proofs.Common.{◌≡◌, ℕ, ◌<◌, ◌≤◌, List, None, Ok
 use Rattle.refusals.specs.declared.Refusal.{Refusal}
 use Rattle.refusals.specs.declared.Refusal.TheVariants.{Overload, NoPlan as NoPlanRefusal}
 use Rattle.periods.specs.Multiples.{common_period}
-use Rattle.periods.specs.Listed.{choices_refusal, start_of}
+use Rattle.periods.specs.Listed.{choices_refusal}
 use Rattle.tasks.specs.declared.figures.Figures.{Figures}
 use Rattle.tasks.specs.Loads.{load, periods_in}
 use Rattle.judges.specs.Meaning.{Meaning}
 use Rattle.planner.specs.declared.plan.Plan.{Plan}
-use Rattle.planner.specs.Plans.{NoPlan, Unplanned, Answered, starts_in, level_at}
+use Rattle.planner.specs.Plans.{NoPlan, Unplanned, Answered, start_at, level_at}
 use Rattle.worked.specs.Tables.{Refused}
 
 module _ (M : Meaning) (tasks : List Figures) (listed : choices_refusal (periods_in tasks) ≡ None) where
@@ -33,7 +33,5 @@ module _ (M : Meaning) (tasks : List Figures) (listed : choices_refusal (periods
       why refusal (inr (inr (l, fits, never, is))) = is
 
       only : (answer : Result Plan Refusal) → Answered M tasks answer → answer ≡ Err NoPlanRefusal
-      only (Ok plan) (l, fits, planned) =
-          let ordered = planned.passing.ordered in
-          absurd (none (start_of (starts_in plan)) (level_at plan) ordered.order ordered.passes)
+      only (Ok plan) (l, fits, planned) = absurd (none (start_at plan) (level_at plan) planned.levels planned.passes)
       only (Err refusal) unplanned = ap Err (why refusal unplanned)

@@ -1,6 +1,6 @@
 -- Tests that are computed: of all numbers below a bound, of any of them, and of a list of tests.
 use Rattle.std.proofs.Common.{◌≡◌, ℕ, zero, suc, ◌<◌, Bool, true, false, not, ◌&&◌, ◌||◌, List, [], ◌∷◌, get_or, sym, refl, subst, inl, inr, arith}
-use Rattle.std.proofs.lemmas.Bool.{false≢true, and_parts, or_cases, both_ways, not_true, cases_eq}
+use Rattle.std.proofs.lemmas.Bool.{false≢true, and_parts, or_cases, both_ways, not-true, cases_eq}
 
 abbrev pub all_below : (ℕ → Bool) → ℕ → Bool
 all_below test zero = true
@@ -43,4 +43,4 @@ implies a b = not a || b
 
 pub implied : (a b : Bool) → implies a b ≡ true → a ≡ true → b ≡ true
 implied a b e h =
-    elim (or_cases (not a) b e) [ inl wrong ↦ absurd (both_ways a (not_true a wrong) h) | inr right ↦ right ]
+    elim (or_cases (not a) b e) [ inl wrong ↦ absurd (both_ways a (not-true a wrong) h) | inr right ↦ right ]

@@ -1,7 +1,7 @@
 -- Tables without a plan, found by computing: with each listed choice of starts, each of some places gets no below the
 -- others of them.
 use Rattle.std.proofs.Common.{◌≡◌, ℕ, zero, suc, ◌<◌, ◌≤◌, Bool, true, false, not, ◌&&◌, ◌||◌, eqb, ltb, ◌⊎◌, List, length, sym, refl, ap, ◌∙◌, subst, inl, inr, arith}
-use Rattle.std.proofs.lemmas.Bool.{and_parts, or_cases, cases_eq, cases_lt, cases_Bool, both_ways, not_true, lt-ltb, ltb-true, eqb-true, eqb-false}
+use Rattle.std.proofs.lemmas.Bool.{and_parts, or_cases, cases_eq, cases_lt, cases_Bool, both_ways, not-true, lt-ltb, ltb-true, eqb-true, eqb-false}
 use Rattle.periods.specs.Listed.{Listed, number_of_choices, choice_of, start_of}
 use Rattle.periods.proofs.Ranks.{ranks_list_the_choices}
 use Rattle.periods.proofs.Starts.{one_listed_choice}
@@ -162,6 +162,6 @@ module _ (tasks : List Figures) where
       (λ y inside chosen ruling.
       let R = ruling.0 in
       eqb-false (work_below tasks y (λ q. true) R) R
-      (not_true (eqb (work_below tasks y (λ q. true) R) R)
+      (not-true (eqb (work_below tasks y (λ q. true) R) R)
       (all_at (unsettled y) (suc (task_at tasks y).deadline) (all_at never_settles (length tasks) rest.1 y inside) R (omega (arith, ruling.1.in_time))))
       ruling.1.settles.settled)

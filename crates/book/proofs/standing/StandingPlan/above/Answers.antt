@@ -17,8 +17,8 @@ loop-other-preserved c q =
     elim c.if-row-rows.branch [
       | then-row-rows w ↦
           above-added (level_of rows) place other q _ (c.loop-other.invariant q) (has c.if-row-rows.above q) (omega arith)
-          (omega (arith, w.if-row-rows.true)) (ap (λ places. has places q) w.above_is ∙ w.add.ensures q)
+          (omega (arith, w.if-row-rows.true)) (ap (λ places. has places q) w.above-is ∙ w.add.ensures q)
       | else-row-rows w ↦
-          ap (λ places. has places q) w.above_is
+          ap (λ places. has places q) w.above-is
           ∙ above-passed (level_of rows) place other q _ (c.loop-other.invariant q) (omega (arith, w.if-row-rows.false))
     ]
