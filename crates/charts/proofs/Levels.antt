@@ -1,16 +1,14 @@
 -- The rows of a sheet by their levels: there is exactly one row on each.
-use Rattle.std.proofs.Common.{◌≡◌, ℕ, zero, suc, ◌+◌, ◌-◌, ◌<◌, ◌≤◌, max, Bool, true, false, cond, eqb, ltb, ◌⊎◌, List, [], ◌∷◌, map, length, get_or, drop, is_some, Some, None, Option, sym, refl, ap, ◌∙◌, subst, inl, inr, arith}
+use Rattle.std.proofs.Common.{◌≡◌, ℕ, zero, suc, ◌+◌, ◌<◌, ◌≤◌, true, cond, eqb, ◌⊎◌, List, [], ◌∷◌, length, get_or, drop, is_some, Some, None, Option, sym, refl, ap, ◌∙◌, subst, inl, inr, arith}
 use lib.ListN.{length-map}
 use Rattle.std.specs.List.{AllByRecursion as All}
 use Rattle.std.proofs.ByRecursion.{All-get_or}
 use Rattle.std.proofs.lemmas.List.{at_drop_more, get_or-map}
 use Rattle.std.proofs.lemmas.Bool.{cases_eq, cond-true, cond-false, eq-eqb, ne_eqb, lt-ltb}
-use Rattle.std.proofs.lemmas.Bool.Decides.{nat_tests}
-use Rattle.tasks.specs.declared.figures.Figures.{Figures}
 use Rattle.tasks.specs.declared.rows.Timed.{Timed}
 use Rattle.timeline.specs.Processor.{sum_below}
 use Rattle.timeline.specs.Requests.{requested}
-use Rattle.timeline.specs.Timeline.{task_at, demanded}
+use Rattle.timeline.specs.Timeline.{task_at}
 use Rattle.timeline.specs.Laws.{Alone}
 use Rattle.timeline.proofs.Backlog.{sum_below_same, sum_below_none}
 use Rattle.timeline.proofs.Levels.{picked, single, own_is}

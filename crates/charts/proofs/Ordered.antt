@@ -1,7 +1,7 @@
 -- Late requests in order.
-use Rattle.std.proofs.Common.{◌≡◌, ℕ, ◌<◌, ◌⊎◌, List, [], ◌∷◌, sym, refl, ap, ◌∙◌, subst, inl, inr, arith}
+use Rattle.std.proofs.Common.{◌≡◌, ◌⊎◌, List, [], ◌∷◌, sym, refl, ap, ◌∙◌, subst, inl, inr, arith}
 use Rattle.entries.specs.declared.LateRequest.{LateRequest}
-use Rattle.charts.specs.LateRequests.{Before, In, Rising, InOrder, OneOrder}
+use Rattle.charts.specs.LateRequests.{Before, In, InOrder, OneOrder}
 
 -- not both ways
 one_way : (a b : LateRequest) → Before a b → Before b a → ⊥

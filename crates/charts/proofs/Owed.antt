@@ -1,12 +1,11 @@
 -- What a task owes at a deadline, and the request that is due there.
-use Rattle.std.proofs.Common.{◌≡◌, ℕ, zero, suc, ◌+◌, ◌-◌, ◌*◌, ◌/◌, ◌%◌, ◌<◌, ◌≤◌, ◌⊎◌, List, [], ◌∷◌, length, get_or, Some, None, sym, refl, ap, ◌∙◌, subst, inl, inr, div-add-mod', zero-mul, arith}
+use Rattle.std.proofs.Common.{◌≡◌, ℕ, zero, suc, ◌+◌, ◌-◌, ◌*◌, ◌/◌, ◌%◌, ◌<◌, ◌≤◌, ◌⊎◌, List, [], ◌∷◌, length, get_or, Some, None, sym, ap, ◌∙◌, subst, inl, inr, div-add-mod', zero-mul, arith}
 use native.Mathlib.Nat.{mul-mod_left}
-use Rattle.std.proofs.ByRecursion.{All-get_or}
 use Rattle.tasks.specs.Figures.{Fair}
 use Rattle.tasks.specs.Rows.{Rising}
-use Rattle.timeline.specs.Processor.{owing, sum_below}
+use Rattle.timeline.specs.Processor.{owing}
 use Rattle.timeline.specs.Requests.{request_tick, requested}
-use Rattle.timeline.specs.Timeline.{task_at, request_of, deadline_of, done_by, Late}
+use Rattle.timeline.specs.Timeline.{task_at, request_of, deadline_of, done_by}
 use Rattle.timeline.proofs.Backlog.{sum_below_same}
 use Rattle.timeline.proofs.Lateness.{come_by_due, done-owing}
 use Rattle.timeline.proofs.Levels.{own_is}
@@ -14,8 +13,7 @@ use Rattle.runner.specs.declared.processor.Processor.{Processor}
 use Rattle.runner.specs.Running.{Stands}
 use Rattle.sheets.specs.Checks.{Sound, tasks_in}
 use Rattle.sheets.specs.declared.row.SheetRow.{SheetRow}
-use Rattle.charts.specs.Dues.{DueAt, LateNow, LateAt}
-use Rattle.charts.specs.LateRequests.{request_at}
+use Rattle.charts.specs.Dues.{DueAt, LateAt}
 use Rattle.charts.specs.Plans.{tasks_of, start_of, level_of, id_of, demands_of, from_zero}
 use Rattle.charts.proofs.Levels.{At, at_place, tasks_length, level_range, alone, top_free}
 use Rattle.charts.proofs.Shift.{owing_shift}

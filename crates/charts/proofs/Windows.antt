@@ -1,7 +1,6 @@
 -- A walk along a window, and the bars that it gives.
-use Rattle.std.proofs.Common.{◌≡◌, ℕ, zero, suc, ◌+◌, ◌-◌, ◌<◌, ◌≤◌, min, ◌⊎◌, List, [], ◌∷◌, sym, refl, ap, ◌∙◌, subst, inl, inr, arith}
+use Rattle.std.proofs.Common.{◌≡◌, ℕ, ◌+◌, ◌-◌, ◌<◌, ◌≤◌, min, ◌⊎◌, List, [], ◌∷◌, sym, refl, ap, ◌∙◌, subst, inl, inr, arith}
 use Rattle.std.proofs.lemmas.Bool.{cases_lt}
-use Rattle.runner.specs.declared.processor.Processor.{Processor}
 use Rattle.runner.specs.declared.span.Span.{Span}
 use Rattle.runner.specs.Levels.{last_tick}
 use Rattle.runner.specs.Running.{Stands, Ran}

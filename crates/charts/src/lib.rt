@@ -1,4 +1,6 @@
 // The chart of a sheet and its late requests, told in a caller's list.
+#![tactic(auto)]
+
 ghost use Rattle.std.specs.Prelude.{◌≡◌};
 ghost use Rattle.entries.specs.Lists.{slice_of};
 ghost use Rattle.sheets.specs.Bytes.{entries_in};

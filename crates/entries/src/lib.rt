@@ -1,4 +1,6 @@
 // Entries of a plan: one list for every kind of them, and one search among those that tell a tick.
+#![tactic(auto)]
+
 ghost use Rattle.std.specs.Prelude.{◌≡◌, ℕ, map};
 ghost use Rattle.entries.specs.Ticks.{FirstAtOrAfter};
 

@@ -47,7 +47,7 @@ fn a_full_list_refuses_an_entry(rt: HostRuntime) -> Result<(), Fail> {
     let mut list = List::new(&mut slots);
     list.add(IDLE)?;
     assert_eq!(rt; list.add(RUN), Err(Refusal::ListTooShort));
-    assert_eq!(rt; list.entries(), &[IDLE]);
+    assert_eq!(rt; list.entries(), [IDLE].as_slice());
     list.clear();
     assert!(rt; list.is_empty());
     assert_eq!(rt; slots, [IDLE]);

@@ -1,11 +1,9 @@
 -- What a judge means and the laws that it shows, and the number that a measuring judge gives besides.
-use Rattle.std.specs.Prelude.{◌≡◌, ℕ, ◌<◌, ◌≤◌, Bool, true, false, List, map, length, get_or, Some, None, Option}
+use Rattle.std.specs.Prelude.{◌≡◌, ℕ, ◌<◌, ◌≤◌, Bool, true, false, List, length, Some, None, Option}
 use Rattle.periods.specs.Listed.{Related}
-use Rattle.tasks.specs.declared.case.Case.{Case}
 use Rattle.tasks.specs.declared.figures.Figures.{Figures}
 pub use Rattle.tasks.specs.Cases.{tasks_of, starts_of}
 use Rattle.tasks.specs.Loads.{periods_in}
-use Rattle.tasks.specs.Timed.{figures_given}
 use Rattle.timeline.specs.Laws.{AllFair}
 use Rattle.timeline.specs.Timeline.{task_at, InTimeBelow}
 

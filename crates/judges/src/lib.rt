@@ -1,4 +1,6 @@
 // Judges: whether a task is in time below others.
+#![tactic(auto)]
+
 mod judge;
 mod margin;
 mod screen;

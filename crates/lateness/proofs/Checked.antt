@@ -1,14 +1,14 @@
 -- Requests of a task that are checked one after the other.
-use Rattle.std.proofs.Common.{◌≡◌, ℕ, zero, suc, ◌+◌, ◌-◌, ◌*◌, ◌<◌, ◌≤◌, max, Bool, true, false, cond, ◌⊎◌, List, length, get_or, sym, refl, ap, ◌∙◌, subst, inl, inr, mul-le-mul_right, suc-mul, zero-mul, arith}
-use Rattle.std.proofs.lemmas.Bool.{cases_lt, cases_eq}
+use Rattle.std.proofs.Common.{◌≡◌, ℕ, zero, suc, ◌+◌, ◌-◌, ◌*◌, ◌<◌, ◌≤◌, max, ◌⊎◌, List, length, get_or, sym, refl, ap, ◌∙◌, subst, inl, inr, mul-le-mul_right, suc-mul, zero-mul, arith}
+use Rattle.std.proofs.lemmas.Bool.{cases_lt}
 use Rattle.tasks.specs.declared.figures.Figures.{Figures}
-use Rattle.timeline.specs.Processor.{Demands, sum_below, owing, done}
+use Rattle.timeline.specs.Processor.{Demands, sum_below, owing}
 use Rattle.timeline.specs.Requests.{requested}
-use Rattle.timeline.specs.Timeline.{task_at, demanded, request_of, deadline_of, done_by, Late, NeverLate, Finished, Finish, WorstResponse}
+use Rattle.timeline.specs.Timeline.{task_at, request_of, deadline_of, done_by, Late, NeverLate, Finished, Finish, WorstResponse}
 use Rattle.timeline.specs.Laws.{AllFair, Spans, through, load_through, Alone}
 use Rattle.timeline.proofs.Backlog.{sum_below_same}
 use Rattle.timeline.proofs.Streams.{up_to-request}
-use Rattle.timeline.proofs.Lateness.{come_by_due, due_at, done-owing}
+use Rattle.timeline.proofs.Lateness.{come_by_due, done-owing}
 use Rattle.timeline.proofs.Laws.{undone_early}
 use Rattle.timeline.proofs.Loads.{own_through}
 use Rattle.timeline.proofs.Related.{has_finish}

@@ -1,18 +1,15 @@
 -- The members of a case, gathered place by place.
-use Rattle.std.proofs.Common.{◌≡◌, ℕ, zero, suc, ◌+◌, ◌-◌, ◌*◌, ◌/◌, ◌<◌, ◌≤◌, Bool, true, false, cond, ◌&&◌, eqb, ltb, leb, ◌⊎◌, List, [], ◌∷◌, ◌++◌, length, get_or, Some, None, MatchBool, sym, refl, ap, ◌∙◌, subst, inl, inr, add-one, arith, length-append}
+use Rattle.std.proofs.Common.{◌≡◌, ℕ, ◌+◌, ◌*◌, ◌/◌, ◌<◌, ◌≤◌, Bool, true, false, List, [], ◌∷◌, ◌++◌, length, get_or, Some, None, sym, refl, ap, ◌∙◌, subst, inl, inr, add-one, arith, length-append}
 use lib.ListN.{length-map}
 use Rattle.std.proofs.lemmas.List.{get_or_append_left, get_or-append-add, get_or-map}
 use Rattle.std.proofs.lemmas.Bool.{cases_lt, cases_eq, cond-true, cond-false}
 use Rattle.std.proofs.lemmas.Bool.Decides.{nat_tests}
-use Rattle.periods.specs.declared.row.Periods.{Periods}
 use Rattle.periods.specs.Divisors.{Divides}
-use Rattle.periods.specs.Multiples.{most_tasks, longest_period, longest_common_period, common_period, CommonMultiple, Proper, period_refusal}
+use Rattle.periods.specs.Multiples.{most_tasks, longest_common_period, common_period, CommonMultiple, Proper, period_refusal}
 use Rattle.periods.proofs.Common.{common_period_least, multiple_pos}
 use Rattle.periods.proofs.Division.{divisor_le}
-use Rattle.periods.specs.Rows.{periods_of, takes}
 use Rattle.tasks.specs.declared.figures.Figures.{Figures}
 use Rattle.tasks.specs.declared.task.TimedTask.{TimedTask}
-use Rattle.tasks.specs.Figures.{Fair}
 use Rattle.tasks.specs.Loads.{periods_in}
 use Rattle.tasks.proofs.Loads.{work_fits}
 use Rattle.tasks.proofs.Placed.{length_tasks, fair_task}
@@ -22,7 +19,7 @@ use Rattle.timeline.specs.Laws.{AllFair}
 use Rattle.timeline.proofs.Loads.{share}
 use Rattle.timeline.proofs.Members.{counted}
 use Rattle.lateness.specs.declared.members.Members.{Members}
-use Rattle.lateness.specs.Members.{tasks_in, starts_in, levels_in, is_member, MemberAt, CommonPeriod}
+use Rattle.lateness.specs.Members.{tasks_in, is_member, MemberAt, CommonPeriod}
 
 -- a multiple of each of some periods, and of one more
 module _ (ts : List ℕ) (t n : ℕ) where

@@ -1,19 +1,18 @@
 -- The members on a processor of their own: those above place by place, then the judged task.
-use Rattle.std.proofs.Common.{◌≡◌, ℕ, zero, suc, ◌+◌, ◌-◌, ◌<◌, ◌≤◌, Bool, true, false, cond, ◌&&◌, eqb, ltb, leb, ◌⊎◌, List, length, sym, refl, ap, ◌∙◌, subst, inl, inr, add-one, arith}
-use Rattle.std.proofs.lemmas.Bool.{cases_lt, cases_eq, cond-true, cond-false, eq-eqb, ne_eqb, lt-ltb}
+use Rattle.std.proofs.Common.{◌≡◌, ℕ, ◌+◌, ◌-◌, ◌<◌, ◌≤◌, Bool, true, false, cond, eqb, ltb, List, length, sym, refl, ap, ◌∙◌, subst, inl, inr, add-one, arith}
+use Rattle.std.proofs.lemmas.Bool.{cases_eq, cond-true, cond-false, eq-eqb, ne_eqb, lt-ltb}
 use Rattle.std.proofs.lemmas.Bool.Decides.{nat_tests}
 use Rattle.periods.specs.Multiples.{most_tasks}
 use Rattle.tasks.specs.declared.figures.Figures.{Figures}
-use Rattle.timeline.specs.Processor.{Demands, sum_below, done}
-use Rattle.timeline.specs.Requests.{requested}
-use Rattle.timeline.specs.Timeline.{task_at, demanded, done_by, below_those}
+use Rattle.timeline.specs.Processor.{Demands, sum_below}
+use Rattle.timeline.specs.Timeline.{demanded, below_those}
 use Rattle.timeline.specs.Laws.{Alone}
 use Rattle.timeline.proofs.Backlog.{sum_below_same}
 use Rattle.timeline.proofs.Lateness.{done_gap}
 use Rattle.timeline.proofs.Levels.{higher, above_of, own_of, done_is}
-use Rattle.timeline.proofs.Members.{counted, joint}
+use Rattle.timeline.proofs.Members.{joint}
 use Rattle.runner.specs.declared.processor.Processor.{Processor}
-use Rattle.runner.specs.Running.{Stands, Added, with_level, nothing}
+use Rattle.runner.specs.Running.{Stands, with_level, nothing}
 use Rattle.lateness.specs.declared.members.Members.{Members}
 use Rattle.lateness.specs.Members.{tasks_in, starts_in, levels_in, is_member, PutBelow, Hosts}
 use Rattle.lateness.specs.Served.{ServedAs}

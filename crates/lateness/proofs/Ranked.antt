@@ -1,5 +1,5 @@
 -- The tasks of a case in the order of their levels.
-use Rattle.std.proofs.Common.{◌≡◌, ℕ, zero, suc, ◌+◌, ◌-◌, ◌<◌, ◌≤◌, Bool, true, false, cond, ◌&&◌, eqb, ltb, leb, ◌⊎◌, List, length, get_or, Some, None, MatchBool, Option, sym, refl, ap, ◌∙◌, subst, inl, inr, add-one, arith}
+use Rattle.std.proofs.Common.{◌≡◌, ℕ, zero, suc, ◌+◌, ◌-◌, ◌<◌, ◌≤◌, Bool, true, cond, ◌&&◌, eqb, ltb, leb, ◌⊎◌, List, length, Some, None, MatchBool, Option, sym, refl, ap, ◌∙◌, subst, inl, inr, add-one, arith}
 use Rattle.std.proofs.lemmas.Bool.{cases_lt, cases_eq, cond-true, cond-false, eq-eqb, ne_eqb}
 use Rattle.std.proofs.lemmas.Bool.Decides.{nat_tests, when_true}
 use Rattle.periods.specs.Multiples.{most_tasks}
@@ -7,7 +7,6 @@ use Rattle.tasks.specs.declared.figures.Figures.{Figures}
 use Rattle.tasks.specs.declared.case.Case.{Case}
 use Rattle.tasks.specs.Cases.{tasks_of, starts_of}
 use Rattle.timeline.specs.Processor.{Demands, sum_below, owing, ready, runs, Idle}
-use Rattle.timeline.specs.Requests.{requested}
 use Rattle.timeline.specs.Timeline.{task_at, demanded}
 use Rattle.timeline.proofs.Backlog.{sum_below_same, sum_below_none}
 use Rattle.timeline.proofs.Lateness.{done-owing}

@@ -1,5 +1,5 @@
 -- From the worst response to the ruling.
-use Rattle.std.proofs.Common.{◌≡◌, ℕ, ◌*◌, ◌≤◌, Bool, true, false, not, ◌⊎◌, length, is_some, Some, None, MatchBool, Option, refl, ap, ◌∙◌, inl, inr, mul-zero, arith}
+use Rattle.std.proofs.Common.{◌≡◌, ℕ, ◌*◌, ◌≤◌, Bool, true, false, not, length, is_some, Some, None, MatchBool, Option, refl, ap, ◌∙◌, inl, inr, mul-zero, arith}
 use Rattle.std.proofs.lemmas.List.{get_or_past}
 use Rattle.tasks.specs.declared.case.Case.{Case}
 use Rattle.tasks.specs.declared.places.Places.{Places}

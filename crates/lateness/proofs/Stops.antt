@@ -1,12 +1,12 @@
 -- A level while a processor runs on.
-use Rattle.std.proofs.Common.{◌≡◌, ◌==◌, ℕ, zero, suc, ◌+◌, ◌-◌, ◌<◌, ◌≤◌, Bool, true, false, cond, ◌⊎◌, Some, None, Option, sym, refl, ap, ◌∙◌, subst, inl, inr, add-zero, add-suc, arith}
+use Rattle.std.proofs.Common.{◌≡◌, ◌==◌, ℕ, zero, suc, ◌+◌, ◌-◌, ◌<◌, ◌≤◌, true, false, ◌⊎◌, Some, None, Option, sym, refl, ap, ◌∙◌, subst, inl, inr, add-zero, add-suc, arith}
 use Rattle.std.specs.Option.{option_eq}
 use Rattle.std.proofs.lemmas.Bool.Decides.{nat_tests}
 use Rattle.std.proofs.lemmas.Bool.{cases_lt, cases_order}
-use Rattle.timeline.specs.Processor.{Demands, sum_below, ready, runs, done}
+use Rattle.timeline.specs.Processor.{Demands, ready, runs, done}
 use Rattle.runner.specs.declared.processor.Processor.{Processor}
 use Rattle.runner.specs.declared.span.Span.{Span}
-use Rattle.runner.specs.Running.{Stands, SameTasks, RunsAt, Ran}
+use Rattle.runner.specs.Running.{Stands, RunsAt, Ran}
 use Rattle.timeline.proofs.Backlog.{part_le}
 use Rattle.lateness.specs.Running.{Stopped, RanOn}
 

@@ -1,5 +1,5 @@
 -- Levels by place, and the processor that serves the tasks of a case in their order.
-use Rattle.std.specs.Prelude.{◌≡◌, ℕ, suc, ◌+◌, ◌<◌, ◌≤◌, true, ◌⊎◌, List, length, Some, None, Option, slice_index}
+use Rattle.std.specs.Prelude.{◌≡◌, ℕ, suc, ◌<◌, ◌≤◌, true, ◌⊎◌, List, length, Some, None, Option, slice_index}
 use Rattle.tasks.specs.declared.case.Case.{Case}
 use Rattle.tasks.specs.Cases.{tasks_of, starts_of}
 use Rattle.timeline.specs.Processor.{Demands, runs, Idle}

@@ -1,4 +1,6 @@
 // Whether a task is ever late, its worst response, and who runs at a tick.
+#![tactic(auto)]
+
 mod below;
 mod members;
 mod order;

@@ -1,4 +1,6 @@
 // Periods of tasks: their common period, and the list of starts that stands for all starts.
+#![tactic(auto)]
+
 ghost use Rattle.std.specs.Prelude.{◌≡◌, ◌≤◌};
 ghost use Rattle.periods.specs.Divisors.{gcd as gcd_of, GreatestCommonDivisor};
 ghost use Rattle.periods.specs.Multiples.{lcm as lcm_of, longest_period, longest_common_period};

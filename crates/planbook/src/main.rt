@@ -1,4 +1,6 @@
 // The program of the plan book: reads a script of calls from standard input, one a line, and answers each on standard output.
+#![tactic(auto)]
+
 mod answer;
 mod call;
 mod failure;

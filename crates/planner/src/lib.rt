@@ -1,4 +1,6 @@
 // Plans: starts and an order of the tasks that pass a judge. Any judge will do.
+#![tactic(auto)]
+
 mod choosing;
 mod levels;
 mod order;

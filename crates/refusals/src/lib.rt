@@ -1,4 +1,6 @@
 // Why a call was refused, and the number under which the shop knows it.
+#![tactic(auto)]
+
 ghost use Rattle.std.specs.Prelude.{◌≡◌};
 ghost use Rattle.refusals.specs.Numbers.{fault_number, refusal_number};
 ghost use Rattle.refusals.specs.declared.Refusal.TheVariants.{Figures};

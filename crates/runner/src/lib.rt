@@ -1,4 +1,6 @@
 // The processor that runs tasks on levels, from event to event: a request, or an end of work.
+#![tactic(auto)]
+
 mod processor;
 mod runs;
 mod span;

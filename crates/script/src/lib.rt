@@ -1,4 +1,6 @@
 // A script of calls as text: the words of a line, and the numbers among them.
+#![tactic(auto)]
+
 mod line;
 mod number;
 

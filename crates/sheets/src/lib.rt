@@ -1,4 +1,6 @@
 // The sheet: tasks with their starts and levels, as bytes that the shop keeps.
+#![tactic(auto)]
+
 mod check;
 mod fault;
 mod row;

@@ -1,4 +1,6 @@
 // Periodic tasks: their figures, the table of a controller's tasks, and cases of tasks with their starts.
+#![tactic(auto)]
+
 mod case;
 mod figures;
 mod places;

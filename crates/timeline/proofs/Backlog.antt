@@ -1,10 +1,9 @@
 -- The backlog of a demand: the units left where each tick takes one of what there is.
 -- The levels above a level together owe the backlog of their demand, so a level owes the difference of two backlogs.
-use Rattle.std.proofs.Common.{◌≡◌, ℕ, zero, suc, ◌+◌, ◌-◌, ◌*◌, ◌<◌, ◌≤◌, Bool, true, false, cond, ◌&&◌, eqb, ltb, ◌⊎◌, sym, refl, ap, ◌∙◌, subst, inl, inr, add-zero, add_assoc, add-suc, zero-add, add-one, arith}
-use native.Mathlib.Decide.{dec_le, dec_lt}
+use Rattle.std.proofs.Common.{◌≡◌, ℕ, zero, suc, ◌+◌, ◌-◌, ◌<◌, ◌≤◌, ◌⊎◌, sym, refl, ap, ◌∙◌, subst, inl, inr, add-zero, add-suc, arith}
 use Rattle.std.proofs.lemmas.Bool.Decides.{nat_tests}
 use Rattle.std.proofs.lemmas.Bool.{cases_lt, cases_eq}
-use Rattle.timeline.specs.Processor.{Demands, sum_below, served, owing, ready, runs, done}
+use Rattle.timeline.specs.Processor.{Demands, sum_below, served, owing, ready}
 
 -- units left before a tick, from x at tick 0
 abbrev pub backlog_from : ℕ → (ℕ → ℕ) → ℕ → ℕ

@@ -1,11 +1,11 @@
 -- A task below others: its request is late exactly where a backlog of all passes the backlog of those above.
-use Rattle.std.proofs.Common.{◌≡◌, ℕ, zero, suc, ◌+◌, ◌-◌, ◌*◌, ◌<◌, ◌≤◌, Bool, true, false, cond, ◌⊎◌, sym, refl, ap, ◌∙◌, subst, inl, inr, add-zero, add_assoc, add-suc, mul-le-mul_right, suc-mul, mul_comm, add-mul, one-mul, zero-mul, mul-suc, arith}
+use Rattle.std.proofs.Common.{◌≡◌, ℕ, zero, suc, ◌+◌, ◌-◌, ◌*◌, ◌<◌, ◌≤◌, ◌⊎◌, refl, ap, ◌∙◌, subst, inl, inr, mul-le-mul_right, suc-mul, add-mul, one-mul, arith}
 use Rattle.std.proofs.lemmas.Bool.{cases_lt, cases_eq}
-use Rattle.timeline.specs.Processor.{Demands, sum_below, owing, ready, runs, done}
+use Rattle.timeline.specs.Processor.{Demands, sum_below, owing, done}
 use Rattle.timeline.specs.Requests.{request_tick, requested}
-use Rattle.timeline.proofs.Backlog.{backlog_from, backlog, both, since, brought, sum_below_add, above-owing, same_demand, below_both, apart, split, busy_long, monotone}
-use Rattle.timeline.proofs.Repeats.{Light, Periodic, both_periodic, repeats, follows, late_again, same_tail}
-use Rattle.timeline.proofs.Streams.{up_to_within, up_to-request, stream_periodic, brought-since, left_out, left_out_less, shifted, before_start}
+use Rattle.timeline.proofs.Backlog.{backlog, both, since, sum_below_add, above-owing, same_demand}
+use Rattle.timeline.proofs.Repeats.{Light, Periodic, both_periodic, repeats}
+use Rattle.timeline.proofs.Streams.{up_to_within, up_to-request, stream_periodic}
 
 -- the tick by which request k is to be done
 abbrev pub due : ℕ → ℕ → ℕ → ℕ → ℕ

@@ -1,22 +1,21 @@
 -- The laws of the timeline, for tasks with fair figures.
-use Rattle.std.proofs.Common.{◌≡◌, ℕ, zero, suc, ◌+◌, ◌-◌, ◌*◌, ◌/◌, ◌<◌, ◌≤◌, Bool, true, false, cond, ◌&&◌, eqb, ltb, leb, ◌⊎◌, List, length, sym, refl, ap, ◌∙◌, subst, inl, inr, mod-lt, div-add-mod', zero-mul, arith}
+use Rattle.std.proofs.Common.{◌≡◌, ℕ, zero, suc, ◌+◌, ◌-◌, ◌*◌, ◌<◌, ◌≤◌, Bool, true, false, cond, ◌&&◌, eqb, ltb, List, length, sym, refl, ap, ◌∙◌, subst, mod-lt, div-add-mod', zero-mul, arith}
 use Rattle.std.proofs.lemmas.Bool.{ltb-true, lt-ltb}
 use Rattle.tasks.specs.declared.figures.Figures.{Figures}
-use Rattle.tasks.specs.Loads.{load_in}
 use Rattle.timeline.specs.Processor.{sum_below, owing, ready, runs}
 use Rattle.timeline.specs.Requests.{requested}
-use Rattle.timeline.specs.Timeline.{task_at, demanded, demands, request_of, deadline_of, done_by, Late, NeverLate}
-use Rattle.timeline.specs.Laws.{AllFair, Spans, through, load_through, Alone, Repeats, Decides, Overloaded, Independent, LessIsNeverLater, WorstStarts, work_in, rounds_in}
+use Rattle.timeline.specs.Timeline.{task_at, demanded, demands, request_of, done_by, Late}
+use Rattle.timeline.specs.Laws.{AllFair, Spans, through, load_through, Alone, Repeats, Decides, Overloaded, Independent, LessIsNeverLater, WorstStarts, rounds_in}
 use Rattle.timeline.proofs.Backlog.{backlog, both, brought, since, sum_below_add, sum_below_same, sum_below_mono, above-owing, same_demand}
 use Rattle.timeline.proofs.Repeats.{Light, Periodic, repeats}
-use Rattle.timeline.proofs.Members.{counted, joint, joint-brought, counted_mono, counted_same, fewer_members}
+use Rattle.timeline.proofs.Members.{counted, joint, joint-brought, counted_mono}
 use Rattle.timeline.proofs.Streams.{brought_cover, less_work}
 use Rattle.timeline.proofs.Lateness.{due, Behind, late_early}
 use Rattle.timeline.proofs.Moves.{less_behind}
 use Rattle.timeline.proofs.Overload.{overload}
 use Rattle.timeline.proofs.WorstStart.{in_time_lem}
 use Rattle.timeline.proofs.Levels.{higher, above_level, above_of, own_of, done_is, after, after_none, undone_behind, behind_undone}
-use Rattle.timeline.proofs.Loads.{share, rounds, whole_rounds, rounds_positive, task_periodic, task_most, task_exact, members_periodic, members_most, members_exact, own_through, higher-through, load_parts, load_by_place}
+use Rattle.timeline.proofs.Loads.{share, rounds, whole_rounds, rounds_positive, task_most, task_exact, members_periodic, members_most, members_exact, own_through, higher-through, load_parts, load_by_place}
 
 pub repeats_law : (tasks : List Figures) → AllFair tasks → Repeats tasks
 repeats_law tasks fair starts levels P m spans room τ level far = (ready_same level, runs_same)

@@ -1,15 +1,15 @@
 -- From tasks on levels to two demands: that of the tasks above one, together, and its own.
-use Rattle.std.proofs.Common.{◌≡◌, ℕ, zero, suc, ◌+◌, ◌-◌, ◌*◌, ◌/◌, ◌%◌, ◌<◌, ◌≤◌, Bool, true, false, cond, eqb, ltb, leb, ◌⊎◌, List, length, sym, refl, ap, ◌∙◌, subst, inl, inr, mod-lt, add-mul, div-add-mod', zero-mul, arith}
+use Rattle.std.proofs.Common.{◌≡◌, ℕ, zero, suc, ◌+◌, ◌-◌, ◌*◌, ◌/◌, ◌%◌, ◌<◌, ◌≤◌, Bool, cond, eqb, ltb, ◌⊎◌, List, length, sym, refl, ap, ◌∙◌, inl, inr, mod-lt, add-mul, div-add-mod', zero-mul, arith}
 use native.Mathlib.Nat.{div-eq_of_lt}
 use Rattle.std.proofs.lemmas.Bool.Decides.{nat_tests}
-use Rattle.std.proofs.lemmas.Bool.{cases_eq, cases_lt, eq-eqb, ne_eqb, cond-true, cond-false}
+use Rattle.std.proofs.lemmas.Bool.{cases_eq, eq-eqb, ne_eqb, cond-true, cond-false}
 use Rattle.tasks.specs.declared.figures.Figures.{Figures}
-use Rattle.timeline.specs.Processor.{Demands, sum_below, done}
-use Rattle.timeline.specs.Requests.{request_tick, requested}
+use Rattle.timeline.specs.Processor.{sum_below}
+use Rattle.timeline.specs.Requests.{requested}
 use Rattle.timeline.specs.Timeline.{task_at, demanded, demands, request_of, done_by}
 use Rattle.timeline.specs.Laws.{Alone}
 use Rattle.timeline.proofs.Backlog.{backlog, both, sum_below_none, sum_below_same}
-use Rattle.timeline.proofs.Members.{counted, joint, sum_exchange}
+use Rattle.timeline.proofs.Members.{joint, sum_exchange}
 use Rattle.timeline.proofs.Streams.{up_to_within, up_to-request}
 use Rattle.timeline.proofs.Lateness.{due, due_at, Behind, done_gap}
 

@@ -1,17 +1,15 @@
 -- What tasks bring in P ticks, P a common multiple of their periods.
-use Rattle.std.proofs.Common.{◌≡◌, ℕ, zero, suc, ◌+◌, ◌-◌, ◌*◌, ◌/◌, ◌<◌, ◌≤◌, Bool, true, false, cond, eqb, ltb, leb, ◌⊎◌, List, [], ◌∷◌, length, get_or, sym, refl, ap, ◌∙◌, subst, inl, inr, mul_comm, zero-mul, mul-div_cancel, arith}
+use Rattle.std.proofs.Common.{◌≡◌, ℕ, zero, suc, ◌+◌, ◌*◌, ◌/◌, ◌<◌, ◌≤◌, Bool, true, false, cond, eqb, leb, List, [], ◌∷◌, length, sym, refl, ap, ◌∙◌, subst, mul_comm, zero-mul, mul-div_cancel, arith}
 use Rattle.std.proofs.lemmas.Bool.Decides.{nat_tests}
 use Rattle.std.proofs.lemmas.Bool.{eq-eqb, ne_eqb, le-leb, cond-true, cond-false}
 use Rattle.periods.specs.Divisors.{Divides}
 use Rattle.tasks.specs.declared.figures.Figures.{Figures}
-use Rattle.tasks.specs.Figures.{Fair}
 use Rattle.tasks.specs.Loads.{load_in}
-use Rattle.timeline.specs.Processor.{Demands, sum_below}
-use Rattle.timeline.specs.Requests.{requested}
+use Rattle.timeline.specs.Processor.{sum_below}
 use Rattle.timeline.specs.Timeline.{task_at, demanded}
 use Rattle.timeline.specs.Laws.{AllFair, Spans, through, load_through, Alone}
-use Rattle.timeline.proofs.Backlog.{both, brought, since, sum_below_same, sum_below_add, sum_below_none, sum_below_mono}
-use Rattle.timeline.proofs.Repeats.{Light, Periodic}
+use Rattle.timeline.proofs.Backlog.{brought, sum_below_same, sum_below_add, sum_below_mono}
+use Rattle.timeline.proofs.Repeats.{Periodic}
 use Rattle.timeline.proofs.Streams.{brought_most, brought-since, stream_periodic}
 use Rattle.timeline.proofs.Members.{counted, joint, joint-brought, joint_periodic, counted_mono, counted_same}
 use Rattle.timeline.proofs.Levels.{higher, single}

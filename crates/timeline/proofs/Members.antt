@@ -1,5 +1,5 @@
 -- The joint demand of some of the tasks: a sum over the places that are members.
-use Rattle.std.proofs.Common.{◌≡◌, ℕ, zero, suc, ◌+◌, ◌-◌, ◌*◌, ◌/◌, ◌<◌, ◌≤◌, Bool, true, false, cond, ◌⊎◌, sym, refl, ap, ◌∙◌, subst, inl, inr, arith}
+use Rattle.std.proofs.Common.{◌≡◌, ℕ, zero, suc, ◌+◌, ◌<◌, ◌≤◌, Bool, true, false, cond, sym, refl, ◌∙◌, subst, arith}
 use Rattle.timeline.specs.Processor.{Demands, sum_below}
 use Rattle.timeline.proofs.Backlog.{since, brought, sum_below_add, sum_below_none, sum_below_mono, sum_below_same}
 use Rattle.timeline.proofs.Repeats.{Periodic}

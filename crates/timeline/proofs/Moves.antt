@@ -1,10 +1,8 @@
 -- Moving starts: what a late request becomes when first requests are left out, and when all starts move alike.
-use Rattle.std.proofs.Common.{◌≡◌, ℕ, zero, suc, ◌+◌, ◌-◌, ◌*◌, ◌<◌, ◌≤◌, ◌⊎◌, sym, refl, ap, ◌∙◌, subst, inl, inr, add-zero, add_assoc, add-suc, mul-le-mul_right, suc-mul, add-mul, add_comm, mul-le-mul_left, one-mul, zero-mul, mul-one, arith}
-use Rattle.std.proofs.lemmas.Bool.{cases_lt}
-use Rattle.timeline.specs.Processor.{sum_below}
-use Rattle.timeline.specs.Requests.{request_tick, requested}
-use Rattle.timeline.proofs.Backlog.{backlog_from, backlog, both, since, same_demand, below_both, apart, split}
-use Rattle.timeline.proofs.Repeats.{Light, Periodic, late_again, same_tail, follows}
+use Rattle.std.proofs.Common.{◌≡◌, ℕ, zero, suc, ◌+◌, ◌-◌, ◌*◌, ◌<◌, ◌≤◌, sym, refl, ap, ◌∙◌, subst, mul-le-mul_right, suc-mul, add-mul, mul-le-mul_left, one-mul, zero-mul, mul-one, arith}
+use Rattle.timeline.specs.Requests.{requested}
+use Rattle.timeline.proofs.Backlog.{backlog_from, backlog, both, since, same_demand, apart, split}
+use Rattle.timeline.proofs.Repeats.{Light, Periodic, late_again, same_tail}
 use Rattle.timeline.proofs.Streams.{stream_periodic, left_out, left_out_less, shifted, before_start}
 use Rattle.timeline.proofs.Lateness.{due, Behind, due_more, due_at}
 

@@ -1,7 +1,7 @@
 -- More than P units in every P ticks: some request of the lowest task is late.
-use Rattle.std.proofs.Common.{◌≡◌, ℕ, zero, suc, ◌+◌, ◌-◌, ◌*◌, ◌<◌, ◌≤◌, ◌⊎◌, sym, refl, ap, ◌∙◌, subst, inl, inr, mul-le-mul_right, mul_assoc, suc-mul, add-mul, mul-le-mul_left, one-mul, zero-mul, mul-one, mul-suc, arith}
+use Rattle.std.proofs.Common.{◌≡◌, ℕ, zero, suc, ◌+◌, ◌*◌, ◌<◌, ◌≤◌, ◌⊎◌, sym, ap, ◌∙◌, subst, inl, inr, mul_assoc, suc-mul, mul-le-mul_left, mul-one, arith}
 use Rattle.timeline.specs.Processor.{sum_below}
-use Rattle.timeline.specs.Requests.{request_tick, requested}
+use Rattle.timeline.specs.Requests.{requested}
 use Rattle.timeline.proofs.Backlog.{backlog_from, backlog, both, since, brought, sum_below_add, below_both, split, busy_long}
 use Rattle.timeline.proofs.Streams.{brought-since}
 use Rattle.timeline.proofs.Lateness.{due, Behind, behind_dec, due_more, due_at}

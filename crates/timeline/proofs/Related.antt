@@ -1,5 +1,5 @@
 -- Related starts: the same requests stay undone, so a task is late with both or with neither, and responds alike.
-use Rattle.std.proofs.Common.{◌≡◌, ℕ, zero, suc, ◌+◌, ◌-◌, ◌*◌, ◌/◌, ◌<◌, ◌≤◌, Bool, true, false, cond, ◌⊎◌, List, length, get_or, sym, refl, ap, ◌∙◌, subst, inl, inr, add-zero, add-suc, one-mul, zero-mul, arith}
+use Rattle.std.proofs.Common.{◌≡◌, ℕ, zero, suc, ◌+◌, ◌-◌, ◌*◌, ◌<◌, ◌≤◌, Bool, true, false, cond, ◌⊎◌, List, length, get_or, sym, refl, ap, ◌∙◌, subst, inl, inr, add-zero, add-suc, one-mul, zero-mul, arith}
 use Rattle.std.proofs.lemmas.List.{length-map, get_or-map}
 use Rattle.std.proofs.lemmas.Bool.{cases_lt}
 use Rattle.periods.specs.Divisors.{Divides}
@@ -9,14 +9,14 @@ use Rattle.periods.proofs.Common.{multiple_common, multiple_pos}
 use Rattle.periods.proofs.Starts.{related_sym}
 use Rattle.tasks.specs.declared.figures.Figures.{Figures}
 use Rattle.tasks.specs.Loads.{periods_in}
-use Rattle.timeline.specs.Processor.{sum_below, done}
-use Rattle.timeline.specs.Requests.{request_tick, requested}
-use Rattle.timeline.specs.Timeline.{task_at, demanded, demands, request_of, done_by, Late, Finished, Finish, WorstResponse}
+use Rattle.timeline.specs.Processor.{sum_below}
+use Rattle.timeline.specs.Requests.{requested}
+use Rattle.timeline.specs.Timeline.{task_at, demanded, request_of, done_by, Finished, Finish, WorstResponse}
 use Rattle.timeline.specs.Laws.{AllFair, Spans, through, load_through, Alone, StartsRelate}
-use Rattle.timeline.proofs.Backlog.{backlog, both, below_both, part_le, sum_below_same, sum_below_none}
+use Rattle.timeline.proofs.Backlog.{both, below_both, part_le, sum_below_same, sum_below_none}
 use Rattle.timeline.proofs.Repeats.{Light, Periodic}
-use Rattle.timeline.proofs.Members.{counted, joint, counted_mono, counted_same}
-use Rattle.timeline.proofs.Streams.{before_start, shifted, left_out, left_out_less, up_to-request, up_to_start}
+use Rattle.timeline.proofs.Members.{counted, counted_mono, counted_same}
+use Rattle.timeline.proofs.Streams.{before_start, shifted, left_out, left_out_less, up_to_start}
 use Rattle.timeline.proofs.Lateness.{due, Behind}
 use Rattle.timeline.proofs.Moves.{same_behind, shift_late, unshift_late, put_back, leave_out}
 use Rattle.timeline.proofs.Levels.{higher, above_of, own_of, done_is, after, undone_behind, behind_undone}

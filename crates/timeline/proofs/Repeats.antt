@@ -1,7 +1,6 @@
 -- A demand that never brings more than P units in P ticks: its backlog runs out again and again, and repeats.
-use Rattle.std.proofs.Common.{◌≡◌, ℕ, zero, suc, ◌+◌, ◌-◌, ◌*◌, ◌<◌, ◌≤◌, ◌⊎◌, sym, refl, ap, ◌∙◌, subst, inl, inr, add_assoc, add-suc, add_comm, arith}
+use Rattle.std.proofs.Common.{◌≡◌, ℕ, zero, suc, ◌+◌, ◌-◌, ◌<◌, ◌≤◌, ◌⊎◌, sym, refl, ap, ◌∙◌, subst, inl, inr, add_assoc, arith}
 use Rattle.std.proofs.lemmas.Bool.{cases_lt, cases_eq}
-use Rattle.timeline.specs.Processor.{sum_below}
 use Rattle.timeline.proofs.Backlog.{backlog_from, backlog, both, since, brought, monotone, same_demand, apart, split, busy, first_empty}
 
 -- no P ticks bring more than P units

@@ -1,12 +1,12 @@
 -- The units that the requests of one task bring: where they fall, and how many in a span of ticks.
-use Rattle.std.proofs.Common.{◌≡◌, ℕ, zero, suc, ◌+◌, ◌-◌, ◌*◌, ◌/◌, ◌%◌, ◌<◌, ◌≤◌, Bool, true, false, cond, ◌&&◌, eqb, leb, ◌⊎◌, sym, refl, ap, ◌∙◌, subst, inl, inr, add-zero, add_assoc, add-suc, mul-le-mul_right, mod-lt, mod-eq_of_lt, mul_assoc, suc-mul, mul_comm, add-mul, div-add-mod', zero-mul, mul-add, arith}
+use Rattle.std.proofs.Common.{◌≡◌, ℕ, zero, suc, ◌+◌, ◌-◌, ◌*◌, ◌/◌, ◌%◌, ◌<◌, ◌≤◌, Bool, true, false, cond, ◌&&◌, eqb, leb, ◌⊎◌, sym, refl, ap, ◌∙◌, inl, inr, add-zero, add_assoc, add-suc, mod-lt, suc-mul, add-mul, div-add-mod', zero-mul, arith}
 use lib.Arith.{digits_mod}
 use native.Mathlib.Nat.{mul-mod_left, mul-add-mod_self_right}
 use Rattle.std.proofs.lemmas.Bool.Decides.{nat_tests}
-use Rattle.std.proofs.lemmas.Bool.{cases_lt, cases_eq, cond-true, cond-false, eq-eqb, ne_eqb, le-leb, lt-leb}
+use Rattle.std.proofs.lemmas.Bool.{cases_lt, cases_eq, eq-eqb, ne_eqb, le-leb, lt-leb}
 use Rattle.timeline.specs.Processor.{sum_below}
 use Rattle.timeline.specs.Requests.{requested}
-use Rattle.timeline.proofs.Backlog.{since, brought, sum_below_mono, sum_below_same}
+use Rattle.timeline.proofs.Backlog.{since, brought}
 use Rattle.timeline.proofs.Repeats.{Periodic}
 
 -- where a tick stands: before the start, or r ticks after the request k, counted from 0

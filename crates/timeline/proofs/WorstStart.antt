@@ -1,9 +1,8 @@
 -- Whatever the starts: where R ticks bring those above at most R - c units, every request is done R ticks after it falls.
 use Rattle.std.proofs.Common.{◌≡◌, ℕ, zero, suc, ◌+◌, ◌-◌, ◌*◌, ◌<◌, ◌≤◌, ◌⊎◌, sym, refl, ap, ◌∙◌, subst, inl, inr, add-zero, add_assoc, add-suc, suc-mul, zero-mul, arith}
 use Rattle.std.proofs.lemmas.Bool.{cases_lt, cases_eq}
-use Rattle.timeline.specs.Processor.{sum_below}
 use Rattle.timeline.specs.Requests.{requested}
-use Rattle.timeline.proofs.Backlog.{backlog_from, backlog, both, since, brought, sum_below_add, sum_below_same, same_demand, below_both, split, busy}
+use Rattle.timeline.proofs.Backlog.{backlog, both, since, brought, sum_below_add, sum_below_same, below_both, split, busy}
 use Rattle.timeline.proofs.Streams.{sum_span, before_start, request-falls, no_request}
 use Rattle.timeline.proofs.Lateness.{due, due_at, Behind, behind_dec}
 

@@ -1,6 +1,6 @@
 -- What one processor does at each tick, from tick 0 without end.
 -- It serves levels, 0 the highest priority. Which work becomes ready, and when, is the demand's affair alone.
-use Rattle.std.specs.Prelude.{◌≡◌, ℕ, zero, suc, ◌+◌, ◌-◌, ◌<◌, Bool, cond, ◌&&◌, ◌==◌, nat_lt}
+use Rattle.std.specs.Prelude.{◌≡◌, ℕ, zero, suc, ◌+◌, ◌-◌, Bool, cond, ◌&&◌, ◌==◌, nat_lt}
 
 -- the units of work that become ready, by level and tick
 abbrev pub Demands : Type 0

@@ -1,6 +1,5 @@
 -- Requests of a task: when they fall, what they bring, when one is finished, and when it is late.
-use Rattle.std.specs.Prelude.{◌≡◌, ℕ, ◌+◌, ◌-◌, ◌*◌, ◌%◌, ◌<◌, ◌≤◌, cond, ◌&&◌, ◌==◌, nat_le}
-use Rattle.timeline.specs.Processor.{Demands, done}
+use Rattle.std.specs.Prelude.{ℕ, ◌+◌, ◌-◌, ◌*◌, ◌%◌, cond, ◌&&◌, ◌==◌, nat_le}
 
 -- request k (k = 1, 2, ..) of a task with this start and period falls at this tick
 abbrev pub request_tick : ℕ → ℕ → ℕ → ℕ

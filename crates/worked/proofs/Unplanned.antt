@@ -2,7 +2,7 @@
 -- others of them.
 use Rattle.std.proofs.Common.{◌≡◌, ℕ, zero, suc, ◌<◌, ◌≤◌, Bool, true, false, not, ◌&&◌, ◌||◌, eqb, ltb, ◌⊎◌, List, length, sym, refl, ap, ◌∙◌, subst, inl, inr, arith}
 use Rattle.std.proofs.lemmas.Bool.{and_parts, or_cases, cases_eq, cases_lt, cases_Bool, both_ways, not-true, lt-ltb, ltb-true, eqb-true, eqb-false}
-use Rattle.periods.specs.Listed.{Listed, number_of_choices, choice_of, start_of}
+use Rattle.periods.specs.Listed.{number_of_choices, choice_of, start_of}
 use Rattle.periods.proofs.Ranks.{ranks_list_the_choices}
 use Rattle.periods.proofs.Starts.{one_listed_choice}
 use Rattle.tasks.specs.declared.figures.Figures.{Figures}
@@ -14,7 +14,7 @@ use Rattle.judges.specs.Tick.{InTime}
 use Rattle.judges.specs.WorstStart.{work_below, InTimeAtWorst}
 use Rattle.judges.specs.TickLaws.{tick_lawful}
 use Rattle.judges.specs.WorstStartLaws.{worst_start_lawful}
-use Rattle.planner.specs.Orders.{Levels, Passes, NonePasses}
+use Rattle.planner.specs.Orders.{Passes, NonePasses}
 use Rattle.planner.specs.Plans.{NoPlan, PassingPlan}
 use Rattle.planner.proofs.Filling.{fewer_above}
 use Rattle.planner.proofs.Rows.{proper_periods}

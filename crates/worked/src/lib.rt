@@ -1,4 +1,6 @@
 // A plan and tables worked out, and what the definitions say of them.
+#![tactic(auto)]
+
 ghost use Rattle.std.specs.Prelude.{◌≡◌};
 ghost use Rattle.sheets.specs.Sheets.{rows_of};
 ghost use Rattle.worked.specs.Plan.{planned_row, planned_rows};

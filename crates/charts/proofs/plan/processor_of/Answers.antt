@@ -1,4 +1,4 @@
-use Rattle.std.proofs.Common.{◌≡◌, ℕ, suc, ◌+◌, is_some, Some, sym, ap, ◌∙◌, add-one, arith}
+use Rattle.std.proofs.Common.{is_some, sym, ap, ◌∙◌, add-one, arith}
 use Rattle.sheets.proofs.Held.{few_rows}
 use Rattle.charts.specs.Plans.{row_on}
 use Rattle.charts.proofs.Levels.{taken}

@@ -1,4 +1,4 @@
-use Rattle.std.proofs.Common.{◌≡◌, ◌≤◌}
+use Rattle.std.proofs.Common.{◌≡◌}
 use Rattle.entries.specs.Lists.{slots_of, slice_of}
 use Rattle.charts.proofs.Filling.{Counted, Filling}
 use Rattle.charts.proofs.walk.fill.Given as goal

@@ -1,4 +1,4 @@
-use Rattle.std.proofs.Common.{◌≡◌, map, sym, refl, ap, ◌∙◌}
+use Rattle.std.proofs.Common.{map, sym, refl, ap, ◌∙◌}
 use Rattle.std.proofs.lemmas.List.{take_all}
 use Rattle.tasks.proofs.Loads.{periods_more}
 use Rattle.tasks.specs.Loads.{periods_in}

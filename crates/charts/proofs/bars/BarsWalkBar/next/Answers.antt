@@ -1,4 +1,4 @@
-use Rattle.std.proofs.Common.{◌≡◌, ◌+◌, sym, ap, ◌∙◌, subst, arith}
+use Rattle.std.proofs.Common.{◌+◌, sym, subst, arith}
 use Rattle.charts.specs.Walks.{Gives, Gave}
 use Rattle.charts.specs.Windows.{Within, Went}
 use Rattle.charts.proofs.Windows.{Chart, left_of, went_on, gave_bar, none_ahead}

@@ -1,4 +1,4 @@
-use Rattle.std.proofs.Common.{sym, ◌∙◌, arith}
+use Rattle.std.proofs.Common.{sym, arith}
 use Rattle.charts.proofs.Dues.{skipped_on, found_here, skip_here}
 use Rattle.charts.proofs.deadlines.Deadlines.next_here.Goals as goal
 

@@ -1,4 +1,4 @@
-use Rattle.std.proofs.Common.{◌≡◌, ◌+◌, ◌-◌}
+use Rattle.std.proofs.Common.{◌+◌, ◌-◌}
 use Rattle.charts.specs.Dues.{Skipped}
 use Rattle.charts.proofs.deadlines.DeadlinesWalkLateRequest.next.Given as goal
 

@@ -4,7 +4,7 @@ use Rattle.refusals.specs.Answers.{answer}
 use Rattle.periods.specs.Multiples.{common_period}
 use Rattle.periods.specs.Rows.{periods_of}
 use Rattle.tasks.proofs.Loads.{takes_fair, answered}
-use Rattle.lateness.proofs.Gathered.{Gathered, fair_in, few_in, none_gathered, gathered_more, gathered_rest, common_answered, common_is}
+use Rattle.lateness.proofs.Gathered.{Gathered, few_in, none_gathered, gathered_more, gathered_rest, common_answered, common_is}
 use Rattle.lateness.proofs.members.Members.common_period.Goals as goal
 use Rattle.lateness.proofs.members.Members.common_period.Goals.{in-Some, in_default}
 

@@ -1,6 +1,5 @@
 use Rattle.std.proofs.Common.{arith}
 use Rattle.tasks.proofs.Placed.{start_short}
-use Rattle.lateness.specs.Members.{starts_in}
 use Rattle.lateness.proofs.Gathered.{members_more}
 use Rattle.lateness.proofs.members.Members.latest_start.Goals as goal
 use Rattle.lateness.proofs.members.Members.latest_start.Goals.{in-Some, in_default}

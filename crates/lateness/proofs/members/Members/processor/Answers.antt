@@ -1,5 +1,4 @@
 use Rattle.std.proofs.Common.{◌+◌, sym, subst, arith}
-use Rattle.std.proofs.lemmas.Bool.Decides.{nat_tests}
 use Rattle.lateness.proofs.Gathered.{few_in}
 use Rattle.lateness.proofs.Hosted.{Raised, none_raised, raised_more, raised_rest, hosted, raised_few}
 use Rattle.lateness.proofs.members.Members.processor.Goals as goal

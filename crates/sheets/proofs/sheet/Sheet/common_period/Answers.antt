@@ -1,8 +1,7 @@
-use Rattle.std.proofs.Common.{◌≡◌, is_ok, sym, ap, ◌∙◌, subst}
+use Rattle.std.proofs.Common.{is_ok, ap, ◌∙◌}
 use Rattle.refusals.specs.Answers.{answer}
 use Rattle.periods.specs.Multiples.{common_period, period_refusal}
 use Rattle.periods.specs.Rows.{periods_of}
-use Rattle.sheets.specs.Checks.{Sound}
 use Rattle.sheets.proofs.Held.{few_rows, fair_rows, period_answered}
 use Rattle.sheets.proofs.sheet.Sheet.common_period.Goals as goal
 

@@ -1,4 +1,4 @@
-use Rattle.std.proofs.Common.{sym, ap, ◌∙◌, arith}
+use Rattle.std.proofs.Common.{sym, ◌∙◌, arith}
 use Rattle.tasks.proofs.Placed.{length_tasks, figures_at_lem, start_at, fair_at}
 use Rattle.tasks.proofs.case.Case.task.Goals as goal
 

@@ -1,4 +1,3 @@
-use Rattle.std.proofs.Common.{sym}
 use Rattle.judges.specs.Meaning.{tasks_of, starts_of}
 use Rattle.tasks.specs.Places.{has}
 use Rattle.judges.proofs.MarginRuns.{told_with_margin}
