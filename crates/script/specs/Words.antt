@@ -1,7 +1,7 @@
 -- The words of a line of a script. Its bytes by number: 9 tab, 10 newline, 13 carriage return, 32 space, 35 #.
 use Rattle.std.specs.Prelude.{◌≡◌, ℕ, ◌-◌, ◌<◌, Bool, false, cond, ◌&&◌, ◌||◌, List, [], ◌∷◌, ◌++◌, map, length, take, ◌==◌, nat_lt, slice_index}
 use Rattle.std.specs.Borrow.{Bor}
-use Rattle.std.specs.List.{AllByRecursion as All}
+use Rattle.std.specs.List.{AllByRecursion}
 
 -- a text without its last byte where that is c
 abbrev pub without_last : ℕ → List ℕ → List ℕ
@@ -36,7 +36,7 @@ words_of line = words_after [] (before_comment (without_end line))
 
 -- a word has a byte, and none of its bytes is a blank or a #
 abbrev pub Word : List ℕ → Type 0
-Word word = (0 < length word) × All (λ b. (blank b || b == 35) ≡ false) word
+Word word = (0 < length word) × AllByRecursion (λ b. (blank b || b == 35) ≡ false) word
 
 -- what references to texts point to
 abbrev pub texts : List (Bor (List ℕ)) → List (List ℕ)

@@ -1,7 +1,7 @@
 // A line taken apart into words.
 ghost use Rattle.std.specs.Prelude.{◌≡◌, ◌++◌, IfOk, OnOk};
 ghost use Rattle.script.specs.Words.{without_last, without_end, before_comment, blank, single, words_of, Word, texts};
-ghost use Rattle.std.specs.List.{AllByRecursion as All};
+ghost use Rattle.std.specs.List.{AllByRecursion};
 
 use std::alloc::{AllocError, Global};
 
@@ -54,7 +54,7 @@ fn add<'a>(words: &mut Vec<&'a [u8]>, word: &'a [u8]) -> Result<(), AllocError>
 // The words of a line, whatever bytes it holds; with its end or without.
 pub fn words<'a>(heap: Global, line: &'a [u8]) -> Result<Vec<&'a [u8]>, AllocError>
     ensures exact { IfOk result (λ v. texts v.items ≡ words_of line.now) }
-    ensures clean { IfOk result (λ v. All Word (texts v.items)) }
+    ensures clean { IfOk result (λ v. AllByRecursion Word (texts v.items)) }
 {
     let text = before_comment(without_end(line));
     let mut words = Vec::new(heap);

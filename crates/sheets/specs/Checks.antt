@@ -2,7 +2,7 @@
 use Rattle.std.specs.Prelude.{◌≡◌, ℕ, ◌+◌, ◌-◌, ◌<◌, ◌≤◌, Bool, false, ◌||◌, List, [], ◌∷◌, ◌++◌, map, length, None, Option, ◌==◌, nat_le, nat_lt, slice_index}
 use Rattle.std.specs.Option.{option_map, option_or}
 use Rattle.std.specs.Bool.{then_some}
-use Rattle.std.specs.List.{AllByRecursion as All}
+use Rattle.std.specs.List.{AllByRecursion}
 use Rattle.periods.specs.Multiples.{most_tasks, longest_common_period, common_period}
 use Rattle.tasks.specs.Figures.{first_fault}
 use Rattle.tasks.specs.Loads.{periods_in}
@@ -41,7 +41,7 @@ Different numbers = (i j : ℕ) → i < length numbers → j < length numbers �
 pub record Sound (rows : List SheetRow) : Type 0 where
   pub rising : Rising 1 (tasks_in rows)
   pub case : FormsCase (timed_in rows)
-  pub levels : All (λ level. (1 ≤ level) × (level ≤ length rows)) (levels_in rows)
+  pub levels : AllByRecursion (λ level. (1 ≤ level) × (level ≤ length rows)) (levels_in rows)
   pub different : Different (levels_in rows)
 
 -- the id of the last of some entries, and 0 if there is none

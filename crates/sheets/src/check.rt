@@ -3,7 +3,7 @@ ghost use Rattle.std.specs.Prelude.{◌≡◌, ◌≤◌, length};
 ghost use Rattle.std.specs.Result.{result_err};
 ghost use Rattle.periods.specs.Multiples.{most_tasks};
 ghost use Rattle.periods.specs.Rows.{periods_of};
-ghost use Rattle.std.specs.List.{AllByRecursion as All};
+ghost use Rattle.std.specs.List.{AllByRecursion};
 ghost use Rattle.tasks.specs.Figures.{Fair};
 ghost use Rattle.tasks.specs.Loads.{periods_in};
 ghost use Rattle.tasks.specs.Timed.{figures_given};
@@ -121,7 +121,7 @@ fn check_entries(rows: &[SheetRow]) -> Result<(), WrongEntry>
 // The periods of fair rows.
 pub fn periods_of(rows: &[SheetRow]) -> Periods
     requires few { length rows.now ≤ most_tasks }
-    requires fair { All (λ row. Fair row.figures) rows.now }
+    requires fair { AllByRecursion (λ row. Fair row.figures) rows.now }
     ensures { periods_of result ≡ periods_in (figures_given (timed_in rows.now)) }
 {
     let mut periods = Periods::new();
@@ -135,7 +135,7 @@ pub fn periods_of(rows: &[SheetRow]) -> Periods
 fn check_period(rows: &[SheetRow]) -> Result<(), SheetFault>
     requires some { 1 ≤ length rows.now }
     requires few { length rows.now ≤ most_tasks }
-    requires fair { All (λ row. Fair row.figures) rows.now }
+    requires fair { AllByRecursion (λ row. Fair row.figures) rows.now }
     ensures { result_err result ≡ period_fault rows.now }
 {
     match periods_of(rows).common_period() {

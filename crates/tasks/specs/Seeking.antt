@@ -1,16 +1,16 @@
 -- Where an id is among rows in rising order, counted from 0.
 use Rattle.std.specs.Prelude.{◌≡◌, ℕ, ◌<◌, ◌≤◌, List, length, take, drop}
-use Rattle.std.specs.List.{HoldsAt, AllByRecursion as All}
+use Rattle.std.specs.List.{HoldsAt, AllByRecursion}
 use Rattle.tasks.specs.declared.rows.Row.{Row}
 
 -- the id stands there, after the smaller ones
 pub record StandsAt (id : ℕ) (rows : List Row) (at : ℕ) : Type 0 where
   pub inside : at < length rows
-  pub smaller : All (λ row. row.id < id) (take at rows)
+  pub smaller : AllByRecursion (λ row. row.id < id) (take at rows)
   pub here : HoldsAt (λ row. row.id ≡ id) rows at
 
 -- the id belongs there, between the smaller ones and the greater ones
 pub record BelongsAt (id : ℕ) (rows : List Row) (at : ℕ) : Type 0 where
   pub inside : at ≤ length rows
-  pub smaller : All (λ row. row.id < id) (take at rows)
-  pub greater : All (λ row. id < row.id) (drop at rows)
+  pub smaller : AllByRecursion (λ row. row.id < id) (take at rows)
+  pub greater : AllByRecursion (λ row. id < row.id) (drop at rows)

@@ -1,7 +1,7 @@
 -- Tasks with their starts, and why they may not form a case.
 use Rattle.std.specs.Prelude.{◌<◌, ◌≤◌, Bool, true, false, ◌&&◌, ◌||◌, List, [], ◌∷◌, map, length, Option, nat_le, nat_lt}
 use Rattle.std.specs.Option.{option_map}
-use Rattle.std.specs.List.{AllByRecursion as All}
+use Rattle.std.specs.List.{AllByRecursion}
 use Rattle.refusals.specs.Answers.{or_else, refuse_if}
 use Rattle.refusals.specs.declared.Refusal.{Refusal}
 use Rattle.refusals.specs.declared.Refusal.TheVariants.{Figures as BadFigures, TooManyTasks, LateStart}
@@ -32,8 +32,8 @@ are_timely (row ∷ rows) = is_timely row && are_timely rows
 pub record Sound (rows : List Timed) : Type 0 where
   pub some : 1 ≤ length rows
   pub few : length rows ≤ most_tasks
-  pub fair : All (λ row. Fair row.figures) rows
-  pub timely : All (λ row. row.start < row.figures.period) rows
+  pub fair : AllByRecursion (λ row. Fair row.figures) rows
+  pub timely : AllByRecursion (λ row. row.start < row.figures.period) rows
   pub short : common_period (periods_in (figures_given rows)) ≤ longest_common_period
 
 -- some row passes a test

@@ -1,6 +1,6 @@
 // Rows of tables and cases: figures of a task with what belongs to them.
 ghost use Rattle.std.specs.Prelude.{◌≡◌, ◌≤◌, map, length};
-ghost use Rattle.std.specs.List.{AllByRecursion as All};
+ghost use Rattle.std.specs.List.{AllByRecursion};
 ghost use Rattle.periods.specs.Multiples.{most_tasks};
 ghost use Rattle.periods.specs.Rows.{periods_of};
 ghost use Rattle.tasks.specs.Figures.{Fair};
@@ -51,7 +51,7 @@ impl HasFigures for Timed {
 // The periods of fair rows, of which there are no more than tasks on a controller.
 pub(crate) fn periods_of<R: HasFigures>(rows: &[R]) -> Periods
     requires few { length rows.now ≤ most_tasks }
-    requires fair { All (λ row. Fair (R.HasFigures.has row)) rows.now }
+    requires fair { AllByRecursion (λ row. Fair (R.HasFigures.has row)) rows.now }
     ensures { periods_of result ≡ periods_in (map R.HasFigures.has rows.now) }
 {
     let mut periods = Periods::new();

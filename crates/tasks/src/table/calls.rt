@@ -1,6 +1,6 @@
 // The calls of a table.
 ghost use Rattle.std.specs.Prelude.{◌≡◌, ◌≤◌, [], length, Some, None};
-ghost use Rattle.std.specs.List.{AllByRecursion as All};
+ghost use Rattle.std.specs.List.{AllByRecursion};
 ghost use Rattle.periods.specs.Listed.{ChoicesTimesPeriod, OneListedChoice};
 ghost use Rattle.periods.specs.Lists.{ListsChoices};
 ghost use Rattle.periods.specs.Multiples.{most_tasks, common_period, period_refusal, LeastCommonMultiple};
@@ -40,7 +40,7 @@ impl Table {
         ensures value { result.now ≡ rows_of self.now }
         ensures few { length result.now ≤ most_tasks }
         ensures rising { Rising 1 result.now }
-        ensures fair { All (λ row. Fair row.figures) result.now }
+        ensures fair { AllByRecursion (λ row. Fair row.figures) result.now }
     {
         &self.rows[0..self.count]
     }
