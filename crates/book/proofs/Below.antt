@@ -1,10 +1,10 @@
 -- A task below those of smaller level is served as on the timeline of all the tasks.
-use Rattle.std.proofs.Common.{◌≡◌, ℕ, ◌+◌, ◌*◌, ◌<◌, ◌≤◌, Bool, ltb, List, length, inl, inr, arith}
+use Rattle.std.proofs.Common.{◌≡◌, ℕ, ◌<◌, Bool, ltb, List, length, inl, inr, arith}
 use Rattle.std.proofs.lemmas.Bool.{cases_eq}
 use Rattle.std.proofs.lemmas.Bool.Decides.{nat_tests}
 use Rattle.tasks.specs.declared.figures.Figures.{Figures}
 use Rattle.timeline.specs.Laws.{Alone}
-use Rattle.timeline.specs.Timeline.{done_by, request_of, deadline_of, below_those, InTimeBelow, Late, NeverLate, Finish, WorstResponse}
+use Rattle.timeline.specs.Timeline.{done_by, deadline_of, below_those, InTimeBelow, Late, NeverLate, Finish, WorstResponse}
 use Rattle.timeline.proofs.Laws.{independent_law}
 use Rattle.lateness.proofs.Hosted.{judged_alone}
 

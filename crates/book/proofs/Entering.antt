@@ -1,13 +1,13 @@
 -- Rows in rising order enter a table one after the other.
-use Rattle.std.proofs.Common.{◌≡◌, ℕ, zero, suc, ◌+◌, ◌<◌, ◌≤◌, false, leb, List, [], ◌∷◌, ◌++◌, length, get_or, take, drop, Some, None, Option, Result, sym, refl, ap, ◌∙◌, subst, arith, length-take}
-use Rattle.std.specs.List.{insert, AllByRecursion as All}
+use Rattle.std.proofs.Common.{◌≡◌, ℕ, zero, suc, ◌+◌, ◌<◌, ◌≤◌, List, [], ◌∷◌, length, get_or, take, None, Option, Result, sym, refl, ◌∙◌, subst, arith}
+use Rattle.std.specs.List.{AllByRecursion as All}
 use Rattle.std.proofs.ByRecursion.{All-get_or}
 use Rattle.std.proofs.lemmas.List.{take_all, take_more, drop_all, length-take-le}
 use Rattle.std.proofs.lemmas.Bool.Decides.{nat_tests}
 use Rattle.periods.specs.Multiples.{most_tasks}
 use Rattle.refusals.specs.declared.Refusal.{Refusal}
-use Rattle.tasks.specs.Figures.{Fair, first_fault}
-use Rattle.tasks.specs.Rows.{Rising, entered, enter_refusal, standing_refusal}
+use Rattle.tasks.specs.Figures.{Fair}
+use Rattle.tasks.specs.Rows.{Rising, entered, enter_refusal}
 use Rattle.tasks.specs.Seeking.{BelongsAt}
 use Rattle.tasks.specs.Tables.{rows_of, Updated}
 use Rattle.tasks.specs.declared.rows.Row.{Row}

@@ -1,19 +1,15 @@
 -- From a plan of the planner to rows of a sheet on which nobody is late.
-use Rattle.std.proofs.Common.{◌≡◌, ℕ, ◌<◌, ◌≤◌, ltb, List, length, get_or, take, None, sym, refl, ap, ◌∙◌, subst, ap₂, arith, length-take}
+use Rattle.std.proofs.Common.{◌≡◌, ℕ, ◌<◌, ◌≤◌, ltb, List, length, get_or, take, None, sym, refl, ap, ◌∙◌, subst, arith, length-take}
 use lib.ListN.{length-map}
-use Rattle.std.specs.List.{AllByRecursion as All}
 use Rattle.std.proofs.ByRecursion.{All-from_get_or}
 use Rattle.std.proofs.lemmas.List.{get_or-take}
-use Rattle.std.proofs.lemmas.Bool.Decides.{nat_tests}
-use Rattle.periods.specs.Listed.{Listed, choices_refusal, start_of as start_of_listed}
+use Rattle.periods.specs.Listed.{choices_refusal, start_of as start_of_listed}
 use Rattle.periods.specs.Multiples.{most_tasks}
 use Rattle.periods.proofs.Ranks.{listed_below_period}
-use Rattle.tasks.specs.Cases.{timed_of}
-use Rattle.tasks.specs.Figures.{Fair}
 use Rattle.tasks.specs.Loads.{periods_in}
 use Rattle.tasks.specs.Rows.{Rising}
 use Rattle.tasks.specs.Tables.{rows_of, figures_in}
-use Rattle.tasks.specs.Timed.{Sound as FormsCase, figures_given}
+use Rattle.tasks.specs.Timed.{Sound as FormsCase}
 use Rattle.tasks.specs.declared.figures.Figures.{Figures}
 use Rattle.tasks.specs.declared.rows.Row.{Row}
 use Rattle.tasks.specs.declared.rows.Timed.{Timed}
@@ -25,10 +21,10 @@ use Rattle.planner.specs.Orders.{PassingOrder}
 use Rattle.planner.specs.Plans.{Planned as PlannedBy, PassingPlan, start_at, level_at, starts_in as starts_in_plan, timed}
 use Rattle.planner.specs.declared.plan.Plan.{Plan}
 use Rattle.planner.proofs.Fairness.{table_fair}
-use Rattle.planner.proofs.Rows.{figures_at, length-timed, timed_figures, fair_timed, timely_timed, proper_periods, period_known}
+use Rattle.planner.proofs.Rows.{length-timed, timed_figures, fair_timed, timely_timed, proper_periods, period_known}
 use Rattle.planner.proofs.Starts.{levels_like, passes_like}
 use Rattle.charts.specs.Plans.{tasks_of, start_of, level_of}
-use Rattle.sheets.specs.Checks.{Sound, tasks_in, timed_in, levels_in}
+use Rattle.sheets.specs.Checks.{Sound, timed_in, levels_in}
 use Rattle.sheets.specs.declared.row.SheetRow.{SheetRow}
 use Rattle.book.specs.Plans.{Ordered, Planned, starts_in, with_plan}
 use Rattle.book.specs.Punctual.{NoneLate}

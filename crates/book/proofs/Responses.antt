@@ -9,7 +9,6 @@ use Rattle.tasks.specs.Timed.{figures_given}
 use Rattle.tasks.specs.declared.case.Case.{Case}
 use Rattle.tasks.specs.declared.figures.Figures.{Figures}
 use Rattle.tasks.specs.declared.places.Places.{Places}
-use Rattle.tasks.specs.declared.rows.Timed.{Timed}
 use Rattle.timeline.specs.Laws.{Alone}
 use Rattle.timeline.specs.Timeline.{InTimeBelow, Late, WorstResponse, below_those}
 use Rattle.lateness.specs.Below.{Responds}

@@ -13,7 +13,7 @@ use Rattle.sheets.specs.Bytes.{sheet_length}
 use Rattle.sheets.specs.Sheets.{overwritten}
 use Rattle.sheets.specs.declared.row.SheetRow.{SheetRow}
 use Rattle.book.specs.declared.book.Book.{Book}
-use Rattle.book.specs.Books.{plan_in, plan_rows, place_in, ask_refusal}
+use Rattle.book.specs.Books.{plan_rows, place_in, ask_refusal}
 use Rattle.book.specs.Plans.{above}
 
 module _ {J : Type 0} (book : Book J) where

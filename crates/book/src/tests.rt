@@ -201,11 +201,12 @@ fn a_chart_needs_a_plan_then_a_window_and_then_room(rt: HostRuntime) -> Result<(
     assert_eq!(rt; book.chart(23, 24, &mut list), Ok(()));
     assert_eq!(rt;
         list.entries(),
-        &[Bar {
+        [Bar {
             first: 23,
             length: 1,
             id: 0,
         }]
+        .as_slice()
     );
     Ok(())
 }

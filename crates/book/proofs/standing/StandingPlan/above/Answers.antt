@@ -1,4 +1,4 @@
-use Rattle.std.proofs.Common.{◌≡◌, ◌<◌, length, ap, ◌∙◌, arith}
+use Rattle.std.proofs.Common.{length, ap, ◌∙◌, arith}
 use Rattle.tasks.specs.Places.{has}
 use Rattle.charts.specs.Plans.{level_of}
 use Rattle.sheets.proofs.Soundness.{count_from_sound}
