@@ -1,5 +1,5 @@
 -- Orders of tasks, and when one passes a judge.
-use Rattle.std.specs.Prelude.{◌≡◌, ℕ, ◌+◌, ◌<◌, ◌≤◌, cond, ◌&&◌, ltb, List, length, Some, None, Option, nat_lt}
+use Rattle.std.specs.Prelude.{◌≡◌, ℕ, ◌+◌, ◌<◌, ◌≤◌, cond, ◌&&◌, List, length, Some, None, Option, nat_lt}
 use Rattle.std.specs.List.{swap}
 use Rattle.tasks.specs.declared.figures.Figures.{Figures}
 use Rattle.judges.specs.Meaning.{Meaning}
@@ -15,7 +15,7 @@ pub record Levels (n : ℕ) (levels : ℕ → ℕ) : Type 0 where
 -- each task gets yes with exactly the tasks of smaller level above it
 abbrev pub Passes : Meaning → List Figures → (ℕ → ℕ) → (ℕ → ℕ) → Type 0
 Passes M tasks starts levels =
-    (place : ℕ) → place < length tasks → M tasks starts place (λ other. ltb (levels other) (levels place))
+    (place : ℕ) → place < length tasks → M tasks starts place (λ other. nat_lt (levels other) (levels place))
 
 -- an order of the tasks that passes with these starts
 pub record PassingOrder (M : Meaning) (tasks : List Figures) (starts levels : ℕ → ℕ) : Type 0 where

@@ -1,5 +1,5 @@
 // The calls of an order.
-ghost use Rattle.std.specs.Prelude.{◌≡◌, ℕ, ◌<◌, ◌≤◌, min, ltb, if◌then◌else◌, Some, None, nat_lt, slice_index};
+ghost use Rattle.std.specs.Prelude.{◌≡◌, ℕ, ◌<◌, ◌≤◌, min, if◌then◌else◌, Some, None, nat_lt, slice_index};
 ghost use Rattle.periods.specs.Multiples.{most_tasks};
 ghost use Rattle.tasks.specs.Places.{has};
 ghost use Rattle.planner.specs.Orders.{Exchanged, place_at, position_of, level_of};
@@ -29,7 +29,7 @@ impl Order {
 
     // The place at a position.
     pub fn place_at(&self, position: usize) -> Option<usize>
-        ensures { result ≡ (if ltb position self.now.count then Some (place_at self.now position) else None) }
+        ensures { result ≡ (if nat_lt position self.now.count then Some (place_at self.now position) else None) }
     {
         if position < self.count {
             Some(self.place(position))
@@ -40,7 +40,7 @@ impl Order {
 
     // The level of a place.
     pub fn level(&self, place: usize) -> Option<u8>
-        ensures { result ≡ (if ltb place self.now.count then Some (level_of self.now place) else None) }
+        ensures { result ≡ (if nat_lt place self.now.count then Some (level_of self.now place) else None) }
     {
         if place < self.count {
             Some(self.level_of(place))
@@ -51,7 +51,7 @@ impl Order {
 
     // The level of each place, with 0 in the places without a task.
     pub(crate) fn levels(&self) -> [u8; MOST_TASKS]
-        ensures { (place : ℕ) → slice_index result place ≡ (if ltb place self.now.count then level_of self.now place else 0) }
+        ensures { (place : ℕ) → slice_index result place ≡ (if nat_lt place self.now.count then level_of self.now place else 0) }
     {
         let mut levels = [0; MOST_TASKS];
         for place in 0..self.count {
