@@ -51,8 +51,8 @@ module _
       let right = none_from_fair (get_or rows k d).figures (All-get_or (λ row. Fair row.figures) rows k d inside fair) in
       grind (arith, nat_tests)
 
-  pub next-entered : entered (get_or rows k d) (take k rows) ≡ take (k + 1) rows
-  next-entered =
+  pub next_entered : entered (get_or rows k d) (take k rows) ≡ take (k + 1) rows
+  next_entered =
       let long = length-take-le k rows (omega arith) in
       let short : length (take k rows) ≤ k = omega arith in
       entered_here (get_or rows k d).id (take k rows) k belongs (get_or rows k d) refl
@@ -66,4 +66,4 @@ module _
       let Accepted : Option Refusal → Type 0 = λ refusal. Updated refusal (entered (get_or rows k d) (take k rows)) before after r in
       let there : Done (get_or rows k d) (take k rows) =
       subst (λ (row : Row). Done row (take k rows)) is (subst (λ (rest : List Row). Done new rest) front updated) in
-      (subst Accepted next_accepted there).1 ∙ next-entered
+      (subst Accepted next_accepted there).1 ∙ next_entered

@@ -46,25 +46,25 @@ ordered_none_late M lawful rows fair ordered place inside =
 
 -- the rows of a table with a plan of its tasks
 module _ (M : Meaning) (lawful : Lawful M) (table : Table) (plan : Plan) (planned : PlannedBy M (figures_in table) plan) where
-  abbrev planned_rows_lem : List SheetRow
-  planned_rows_lem = with_plan (rows_of table) (start_at plan) (level_at plan)
+  abbrev planned_rows : List SheetRow
+  planned_rows = with_plan (rows_of table) (start_at plan) (level_at plan)
 
   pub planned_whole : plan.count ≡ length (rows_of table)
   planned_whole = planned.count ∙ length-map (rows_of table) (λ row. row.figures)
 
-  same_tasks : tasks_of planned_rows_lem ≡ figures_in table
+  same_tasks : tasks_of planned_rows ≡ figures_in table
   same_tasks = tasks_of-with_plan (rows_of table) (start_at plan) (level_at plan)
 
-  long : length planned_rows_lem ≡ length (rows_of table)
+  long : length planned_rows ≡ length (rows_of table)
   long = length-with_plan (rows_of table) (start_at plan) (level_at plan)
 
   few : length (rows_of table) ≤ most_tasks
   few = omega (arith, table.few, length-take table.count table.rows)
 
-  same_level : (q : ℕ) → q < length (rows_of table) → level_at plan q ≡ level_of planned_rows_lem q
+  same_level : (q : ℕ) → q < length (rows_of table) → level_at plan q ≡ level_of planned_rows q
   same_level q inside = sym (level_of-with_plan (rows_of table) (start_at plan) (level_at plan) q inside)
 
-  same_starts : starts_in_plan plan ≡ starts_in planned_rows_lem
+  same_starts : starts_in_plan plan ≡ starts_in planned_rows
   same_starts =
       ap (λ n. take n plan.starts) planned_whole
       ∙ sym (starts_in-with_plan (rows_of table) plan.starts (level_at plan) (omega (arith, plan.starts_width, few)))
@@ -83,28 +83,28 @@ module _ (M : Meaning) (lawful : Lawful M) (table : Table) (plan : Plan) (planne
         };
       }
 
-  pub rows_planned : Planned M planned_rows_lem
+  pub rows_planned : Planned M planned_rows
   rows_planned =
       let many = length-map (rows_of table) (λ row. row.figures) in
       let OfStarts : List ℕ → Type 0 = λ starts. PassingPlan M (figures_in table) starts (level_at plan) in
-      let OfTasks : List Figures → Type 0 = λ tasks. PassingPlan M tasks (starts_in planned_rows_lem) (level_of planned_rows_lem) in
+      let OfTasks : List Figures → Type 0 = λ tasks. PassingPlan M tasks (starts_in planned_rows) (level_of planned_rows) in
       let passed = subst OfStarts same_starts passing in
-      let level : (q : ℕ) → q < length (figures_in table) → level_at plan q ≡ level_of planned_rows_lem q =
+      let level : (q : ℕ) → q < length (figures_in table) → level_at plan q ≡ level_of planned_rows q =
       λ q inside. same_level q (omega arith) in
-      let ordered : PassingOrder M (figures_in table) (start_of planned_rows_lem) (level_of planned_rows_lem) =
+      let ordered : PassingOrder M (figures_in table) (start_of planned_rows) (level_of planned_rows) =
       record {
-        order = levels_like (length (figures_in table)) (level_at plan) (level_of planned_rows_lem) level passed.ordered.order;
+        order = levels_like (length (figures_in table)) (level_at plan) (level_of planned_rows) level passed.ordered.order;
         passes =
-            passes_like M lawful (figures_in table) (table_fair table) (start_of planned_rows_lem) (start_of planned_rows_lem) (level_at plan) (level_of planned_rows_lem)
+            passes_like M lawful (figures_in table) (table_fair table) (start_of planned_rows) (start_of planned_rows) (level_at plan) (level_of planned_rows)
             (λ q inside. refl) level passed.ordered.passes;
       }
       in
       subst OfTasks (sym same_tasks) (record { listed = passed.listed; ordered = ordered })
 
-  pub rows_none_late : NoneLate planned_rows_lem
+  pub rows_none_late : NoneLate planned_rows
   rows_none_late =
       let Fair' : List Figures → Type 0 = AllFair in
-      ordered_none_late M lawful planned_rows_lem (subst Fair' (sym same_tasks) (table_fair table)) rows_planned.ordered
+      ordered_none_late M lawful planned_rows (subst Fair' (sym same_tasks) (table_fair table)) rows_planned.ordered
 
   module _ (listed : choices_refusal (periods_in (figures_in table)) ≡ None) where
     below_period : (q : ℕ) → q < length (rows_of table) → start_at plan q < get_or (periods_in (figures_in table)) q 0
@@ -133,20 +133,20 @@ module _ (M : Meaning) (lawful : Lawful M) (table : Table) (plan : Plan) (planne
           short = rw (timed_figures (rows_of table) (start_at plan)) known.1;
         }
 
-    pub rows_sound : Sound planned_rows_lem
+    pub rows_sound : Sound planned_rows
     rows_sound =
         let Ascending : List Row → Type 0 = Rising 1 in
         let Forms : List Timed → Type 0 = FormsCase in
         let levels = rows_planned.ordered.order in
-        let held = length-tasks_of planned_rows_lem in
-        let many = length-map planned_rows_lem (λ row. row.level) in
+        let held = length-tasks_of planned_rows in
+        let many = length-map planned_rows (λ row. row.level) in
         record {
           rising =
               subst Ascending (sym (tasks_in-with_plan (rows_of table) (start_at plan) (level_at plan)))
               (rising_from_tidy 1 (rows_of table) table.tidy);
           case = subst Forms (sym (timed_in-with_plan (rows_of table) (start_at plan) (level_at plan))) forms_case;
           levels =
-              All-from_get_or (λ level. (1 ≤ level) × (level ≤ length planned_rows_lem)) (levels_in planned_rows_lem) 0
+              All-from_get_or (λ level. (1 ≤ level) × (level ≤ length planned_rows)) (levels_in planned_rows) 0
               (λ i inside. (levels.least i (omega arith), omega (arith, levels.most i (omega arith))));
           different = λ i j inside-i inside-j same. levels.apart i j (omega arith) (omega arith) same;
         }

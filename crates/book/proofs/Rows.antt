@@ -97,17 +97,17 @@ start_at rows place inside = get_or-map (λ row. row.start) rows place blank 0 i
 
 -- of the places up to one, those of smaller level than that of a place: one place more
 module _ (levels : ℕ → ℕ) (place other q : ℕ) (before : Bool) (passed : before ≡ (ltb q other && ltb (levels q) (levels place))) where
-  pub above-added :
+  pub above_added :
       (after : Bool) → other < most_tasks → levels other < levels place → after ≡ ((eqb q other && ltb other most_tasks) || before) →
       after ≡ (ltb q (other + 1) && ltb (levels q) (levels place))
-  above-added after room smaller is =
+  above_added after room smaller is =
       elim (cases_eq q other) [
         | inl same ↦ let here = ap levels same in grind (arith, nat_tests)
         | inr apart ↦ grind (arith, nat_tests)
       ]
 
-  pub above-passed : levels place ≤ levels other → before ≡ (ltb q (other + 1) && ltb (levels q) (levels place))
-  above-passed larger =
+  pub above_passed : levels place ≤ levels other → before ≡ (ltb q (other + 1) && ltb (levels q) (levels place))
+  above_passed larger =
       elim (cases_eq q other) [
         | inl same ↦ let here = ap levels same in grind (arith, nat_tests)
         | inr apart ↦ grind (arith, nat_tests)

@@ -3,8 +3,9 @@ pub mod Meaning
 pub mod Screen
 pub mod Tick
 pub mod WorstStart
-pub mod ScreenLaws
-pub mod WorstStartLaws
+-- proofs of the laws, which the impls cite
 pub mod Above
-pub mod TickLaws
 pub mod MarginLaws
+pub mod ScreenLaws
+pub mod TickLaws
+pub mod WorstStartLaws

@@ -50,20 +50,20 @@ module _ (tasks tasks' : List Figures) (starts starts' : ℕ → ℕ) (judged : 
 
 pub tick_lawful : Lawful InTime
 tick_lawful =
-    lawful_if_stays InTime (λ tasks starts judged above in_time_lem. in_time_lem.0)
-    (λ tasks tasks' starts starts' judged above above' fair fair' fewer in_time_lem. (
+    lawful_if_stays InTime (λ tasks starts judged above in_time. in_time.0)
+    (λ tasks tasks' starts starts' judged above above' fair fair' fewer in_time. (
       fewer.inside,
-      λ k late. in_time_lem.1 k (late_before tasks tasks' starts starts' judged above above' fair fair' fewer in_time_lem.0 k late),
+      λ k late. in_time.1 k (late_before tasks tasks' starts starts' judged above above' fair fair' fewer in_time.0 k late),
     ))
-    (λ tasks starts judged above fair in_time_lem. in_time_lem.1)
-    (λ tasks starts starts' judged above fair rel in_time_lem. (
-      in_time_lem.0,
+    (λ tasks starts judged above fair in_time. in_time.1)
+    (λ tasks starts starts' judged above fair rel in_time. (
+      in_time.0,
       λ k late.
           let back =
-          (starts_relate_law tasks fair).late starts' starts (below_those judged above) judged in_time_lem.0 (alone_below tasks judged above)
+          (starts_relate_law tasks fair).late starts' starts (below_those judged above) judged in_time.0 (alone_below tasks judged above)
           (related_sym (periods_in tasks) starts starts' rel) k late
           in
-          in_time_lem.1 back.0 back.1,
+          in_time.1 back.0 back.1,
     ))
 
 -- The worst response is one number, from the work to the deadline.
@@ -76,9 +76,9 @@ module _ (tasks : List Figures) (starts levels : ℕ → ℕ) (q : ℕ) where
       omega (arith, finish.2)
 
   -- nothing is done before the first request
-  done-since : q < length tasks → Alone tasks levels q → (τ : ℕ) → done_by tasks starts levels q τ ≤ τ - starts q
-  done-since inside alone zero = omega arith
-  done-since inside alone (suc τ) = go (cases_lt τ (starts q)) (done-since inside alone τ)
+  done_since : q < length tasks → Alone tasks levels q → (τ : ℕ) → done_by tasks starts levels q τ ≤ τ - starts q
+  done_since inside alone zero = omega arith
+  done_since inside alone (suc τ) = go (cases_lt τ (starts q)) (done_since inside alone τ)
     where
       go : (τ < starts q) ⊎ (starts q ≤ τ) → done_by tasks starts levels q τ ≤ τ - starts q → done_by tasks starts levels q (suc τ) ≤ suc τ - starts q
       go (inl early) _ =
@@ -97,7 +97,7 @@ module _ (tasks : List Figures) (starts levels : ℕ → ℕ) (q : ℕ) where
       low =
           let finish = worst.within 1 (omega arith) in
           let done = finish.1.finished in
-          let since = done-since inside alone finish.0 in
+          let since = done_since inside alone finish.0 in
           let z = zero-mul (task_at tasks q).period in
           let o = one-mul (task_at tasks q).work in
           omega (arith, finish.2)

@@ -7,7 +7,7 @@ use Rattle.timeline.specs.Requests.{requested}
 use Rattle.timeline.specs.Timeline.{task_at, request_of, deadline_of, done_by, Late, NeverLate, Finished, Finish, WorstResponse}
 use Rattle.timeline.specs.Laws.{AllFair, Spans, through, load_through, Alone}
 use Rattle.timeline.proofs.Backlog.{sum_below_same}
-use Rattle.timeline.proofs.Streams.{up_to-request}
+use Rattle.timeline.proofs.Streams.{up_to_request}
 use Rattle.timeline.proofs.Lateness.{come_by_due, done-owing}
 use Rattle.timeline.proofs.Laws.{undone_early}
 use Rattle.timeline.proofs.Loads.{own_through}
@@ -16,7 +16,7 @@ use Rattle.runner.specs.declared.processor.Processor.{Processor}
 use Rattle.runner.specs.Running.{Stands}
 use Rattle.lateness.specs.Running.{Stopped, RanOn}
 use Rattle.lateness.specs.Served.{ServedAs}
-use Rattle.lateness.proofs.Stops.{done-later}
+use Rattle.lateness.proofs.Stops.{done_later}
 
 module _ (tasks : List Figures) (starts levels : ℕ → ℕ) (q : ℕ) where
   -- some request, after a tick that is not its own, is finished exactly `worst` after it falls
@@ -59,8 +59,8 @@ module _ (tasks : List Figures) (fair : AllFair tasks) (starts levels : ℕ → 
   request_at_lem : (k : ℕ) → request (suc k) ≡ starts q + k * t
   request_at_lem k = let m = ap (λ n. n * t) (let e : suc k - 1 ≡ k = omega arith in e) in omega arith
 
-  pub next-request : (k : ℕ) → request (suc (suc k)) ≡ request (suc k) + t
-  next-request k = let a = request_at_lem k in let b = request_at_lem (suc k) in let m = suc-mul k t in omega arith
+  pub next_request : (k : ℕ) → request (suc (suc k)) ≡ request (suc k) + t
+  next_request k = let a = request_at_lem k in let b = request_at_lem (suc k) in let m = suc-mul k t in omega arith
 
   request_rises : (j k : ℕ) → 1 ≤ j → j ≤ k → request j ≤ request k
   request_rises j k pos le = let m : (j - 1) * t ≤ (k - 1) * t = mul-le-mul_right t (omega arith) in omega arith
@@ -86,14 +86,14 @@ module _ (tasks : List Figures) (fair : AllFair tasks) (starts levels : ℕ → 
 
   done_mono : (a b : ℕ) → a ≤ b → done_by tasks starts levels q a ≤ done_by tasks starts levels q b
   done_mono a b le =
-      let e₁ = served.same a in let e₂ = served.same b in let r = done-later D level a b le in omega arith
+      let e₁ = served.same a in let e₂ = served.same b in let r = done_later D level a b le in omega arith
 
   -- before it falls, no unit of a request is done
   undone_at_request : (k : ℕ) → done_by tasks starts levels q (request (suc k)) ≤ k * c
   undone_at_request k =
       let f = fair q inside in
       let e = come (request (suc k)) in
-      let u = ap (sum_below (requested c t (starts q))) (request_at_lem k) ∙ up_to-request c t (starts q) k (omega arith) in
+      let u = ap (sum_below (requested c t (starts q))) (request_at_lem k) ∙ up_to_request c t (starts q) k (omega arith) in
       omega arith
 
   -- One more request is checked, up to its deadline, with nothing left there; the level stopped at `stop`.
@@ -128,7 +128,7 @@ module _ (tasks : List Figures) (fair : AllFair tasks) (starts levels : ℕ → 
         let l = stop_later in
         record {
           done_so_far = omega (arith, owed_at_due k);
-          passed = omega (arith, next-request k);
+          passed = omega (arith, next_request k);
           short = omega arith;
           within = λ j pos le. elim (cases_lt k j) [
             | inl new' ↦ let e : j ≡ suc k = omega arith in let r = ap request e in let w = ap (λ n. n * c) e in let m = done_mono stop (request j + new) (omega arith) in let a = all_done in omega arith
@@ -226,8 +226,8 @@ module _ (tasks : List Figures) (fair : AllFair tasks) (starts levels : ℕ → 
     stopped_at_due =
         subst (λ tick. Stopped checking.D level p.tick tick stop) at_due (ran.stopped checking.D checking.stands)
 
-    pub after-request : next ≤ stop
-    after-request =
+    pub after_request : next ≤ stop
+    after_request =
         let l = stop_later tasks fair starts levels q inside checking.D level checking.served checking.k p.tick worst stop checking.checked stopped_at_due (owed ∙ none) in
         omega (arith, checking.at)
 
@@ -239,7 +239,7 @@ module _ (tasks : List Figures) (fair : AllFair tasks) (starts levels : ℕ → 
           stands = ran.stands checking.D checking.stands;
           served = checking.served;
           k = suc checking.k;
-          at = omega (arith, checking.at, next-request tasks fair starts levels q inside checking.D level checking.served checking.k);
+          at = omega (arith, checking.at, next_request tasks fair starts levels q inside checking.D level checking.served checking.k);
           checked = subst (λ tick. Checked tasks starts levels q (suc checking.k) tick new) (sym at_due)
               (one_more tasks fair starts levels q inside checking.D level checking.served checking.k p.tick worst stop checking.checked stopped_at_due (owed ∙ none)
               new (most ∙ ap (λ r. max worst (stop - r)) checking.at));

@@ -68,8 +68,8 @@ module _ (m : Members) where
       }
 
   -- another place than the judged one is a member exactly if it is above
-  member-above : (i : ℕ) → (i ≡ m.judged → ⊥) → is_member m i ≡ higher (levels_in m) m.judged i
-  member-above i other = grind (arith, nat_tests)
+  member_above : (i : ℕ) → (i ≡ m.judged → ⊥) → is_member m i ≡ higher (levels_in m) m.judged i
+  member_above i other = grind (arith, nat_tests)
 
   not_member : (b : Bool) → b ≡ false → b ≡ true → ⊥
   not_member b f t = let z : ◌≡◌ {A = ℕ} 0 1 = cc in omega arith
@@ -90,7 +90,7 @@ module _ (m : Members) where
         go true member =
             let a = put.member inside member in
             let n = a.count in
-            let high = sym (member-above i other) ∙ member in
+            let high = sym (member_above i other) ∙ member in
             record {
               start = a.tick ∙ so_far.start;
               few = let f = so_far.few in grind (arith, nat_tests);
@@ -115,7 +115,7 @@ module _ (m : Members) where
               above = λ tick.
                   let old = so_far.above tick in
                   let new = joint_more tick in
-                  let counts = cond-false (higher (levels_in m) m.judged i) (demanded (tasks_in m) (starts_in m) i tick) 0 (sym (member-above i other) ∙ absent) in
+                  let counts = cond-false (higher (levels_in m) m.judged i) (demanded (tasks_in m) (starts_in m) i tick) 0 (sym (member_above i other) ∙ absent) in
                   omega arith;
             })
 

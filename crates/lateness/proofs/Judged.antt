@@ -10,7 +10,7 @@ use Rattle.runner.specs.declared.processor.Processor.{Processor}
 use Rattle.lateness.specs.declared.members.Members.{Members}
 use Rattle.lateness.specs.Members.{tasks_in, starts_in, levels_in, is_member, CommonPeriod, StartsBy}
 use Rattle.lateness.specs.Running.{RanOn}
-use Rattle.lateness.proofs.Checked.{Checking, never_late, worst_response, found_late, after-request, checks_on}
+use Rattle.lateness.proofs.Checked.{Checking, never_late, worst_response, found_late, after_request, checks_on}
 use Rattle.lateness.proofs.Gathered.{fair_in}
 use Rattle.lateness.proofs.Hosted.{judged_alone}
 
@@ -52,7 +52,7 @@ module _ (m : Members) (held : m.judged < length (tasks_in m)) (figures : Figure
   module _ (none : left ≤ 0) where
     pub stops_after : next ≤ stop
     stops_after =
-        after-request (tasks_in m) (fair_in m) (starts_in m) (levels_in m) m.judged held level p next worst checking stop p' ran due (omega arith)
+        after_request (tasks_in m) (fair_in m) (starts_in m) (levels_in m) m.judged held level p next worst checking stop p' ran due (omega arith)
 
     pub next_checking :
         (period longest : ℕ) → period ≡ figures.period → longest ≡ max worst (stop - next) →

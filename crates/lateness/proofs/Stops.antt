@@ -15,8 +15,8 @@ done_rises D level a zero = let e = ap (done D level) (add-zero a) in omega arit
 done_rises D level a (suc n) =
     let e = ap (done D level) (add-suc a n) in let ih = done_rises D level a n in omega arith
 
-pub done-later : (D : Demands) (level a b : ℕ) → a ≤ b → done D level a ≤ done D level b
-done-later D level a b le =
+pub done_later : (D : Demands) (level a b : ℕ) → a ≤ b → done D level a ≤ done D level b
+done_later D level a b le =
     let e : a + (b - a) ≡ b = omega arith in
     let r = done_rises D level a (b - a) in
     let s = ap (done D level) e in
@@ -59,7 +59,7 @@ module _ (D : Demands) (level from tick : ℕ) (p q : Processor) (end : ℕ) (sp
         before = omega arith;
         all = refl;
         first = λ earlier f le. elim (cases_lt earlier q.tick) [
-          | inl l ↦ let rise = done-later D level earlier (p.tick + n) (omega arith) in omega arith
+          | inl l ↦ let rise = done_later D level earlier (p.tick + n) (omega arith) in omega arith
           | inr l ↦ l
         ];
       }
@@ -97,8 +97,8 @@ module _ (p₀ : Processor) (level tick : ℕ) (p q : Processor) (end : ℕ) (sp
       goes_on stop (λ D s.
       subst (Stopped D level p₀.tick q.tick) (sym at) (stopped_here D level p₀.tick tick p q end span ran (so_far.stands D s) so_far.later here))
 
-  pub ran-other : (span.runs ≡ Some level → ⊥) → RanOn p₀ level tick q
-  ran-other other =
+  pub ran_other : (span.runs ≡ Some level → ⊥) → RanOn p₀ level tick q
+  ran_other other =
       goes_on tick (λ D s. stopped_before D level p₀.tick tick p q end span ran (so_far.stands D s) other (so_far.stopped D s))
 
 -- a test for the level that ran

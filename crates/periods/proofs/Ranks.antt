@@ -59,11 +59,11 @@ pub length_digits : (gs : List ℕ) (rank : ℕ) → length (digits gs rank) ≡
 length_digits [] rank = refl
 length_digits (g ∷ gs) rank = ap suc (length_digits gs (rank % product gs))
 
-digits-below : (gs : List ℕ) (rank : ℕ) → rank < product gs → Below gs (digits gs rank)
-digits-below [] rank h = tt
-digits-below (g ∷ gs) rank h =
+digits_below : (gs : List ℕ) (rank : ℕ) → rank < product gs → Below gs (digits gs rank)
+digits_below [] rank h = tt
+digits_below (g ∷ gs) rank h =
     let pos = factor_pos g (product gs) rank h in
-    (div_below rank (product gs) g pos h, digits-below gs (rank % product gs) (mod-lt rank pos))
+    (div_below rank (product gs) g pos h, digits_below gs (rank % product gs) (mod-lt rank pos))
 
 -- the rank of a choice, by which the digits are reached
 rank_of : List ℕ → List ℕ → ℕ
@@ -105,7 +105,7 @@ pub ranks_list_the_choices : (ts : List ℕ) → RanksListTheChoices ts
 ranks_list_the_choices ts =
     let gs = radices 1 ts in
     record {
-      listed = digits-below gs;
+      listed = digits_below gs;
       reached = λ ss h. (rank_of gs ss, rank_below gs ss h, digits_rank gs ss h);
       rising = digits_rise gs;
     }

@@ -66,7 +66,8 @@ pub fn run<J: Judge>(rt: &HostRuntime, judge: &J) -> io::Result<()> {
     Ok(())
 }
 
-// The exit status is 0 in every case: all that there is to say stands on standard output.
+// The exit status is 0 in every case, also where no memory is left to read the script with: what there is to say
+// stands on standard output.
 fn main(rt: HostRuntime) {
     let _ = open(&rt);
 }

@@ -36,8 +36,8 @@ undone :
     ys ≡ cond (ltb i n && ltb j n) (swap xs i j) xs → zs ≡ cond (ltb i m && ltb j m) (swap ys i j) ys → zs ≡ xs
 undone n m i j xs ys zs fits same there back =
     elim (cases_lt i n) [
-      | inl iIn ↦ elim (cases_lt j n) [
-        | inl jIn ↦ let whole = exchanged_back xs i j (omega arith) (omega arith) in grind (arith, nat_tests)
+      | inl i_in ↦ elim (cases_lt j n) [
+        | inl j_in ↦ let whole = exchanged_back xs i j (omega arith) (omega arith) in grind (arith, nat_tests)
         | inr past ↦ grind (arith, nat_tests)
       ]
       | inr past ↦ grind (arith, nat_tests)

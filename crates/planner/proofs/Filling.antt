@@ -29,8 +29,8 @@ order_levels n order whole = record {
 }
 
 -- the position up to k with the greatest value
-up_to-next : (f : ℕ → ℕ) (k most : ℕ) → ((l : ℕ) → l ≤ k → f l ≤ most) → f (suc k) ≤ most → (l : ℕ) → l ≤ suc k → f l ≤ most
-up_to-next f k most before here l below =
+up_to_next : (f : ℕ → ℕ) (k most : ℕ) → ((l : ℕ) → l ≤ k → f l ≤ most) → f (suc k) ≤ most → (l : ℕ) → l ≤ suc k → f l ≤ most
+up_to_next f k most before here l below =
     elim (cases_eq l (suc k)) [ inl is ↦ omega (arith, ap f is) | inr not ↦ before l (omega arith) ]
 
 greatest : (f : ℕ → ℕ) (k : ℕ) → (m : ℕ) × (m ≤ k) × ((l : ℕ) → l ≤ k → f l ≤ f m)
@@ -38,12 +38,12 @@ greatest f zero = (0, omega arith, λ l below. let is : l ≡ 0 = omega arith in
 greatest f (suc k) =
     let (m, within, most) = greatest f k in
     elim (cases_lt (f m) (f (suc k))) [
-      | inl more ↦ (suc k, omega arith, up_to-next f k (f (suc k)) (λ l below. omega (arith, most l below)) (omega arith))
-      | inr less ↦ (m, omega arith, up_to-next f k (f m) most less)
+      | inl more ↦ (suc k, omega arith, up_to_next f k (f (suc k)) (λ l below. omega (arith, most l below)) (omega arith))
+      | inr less ↦ (m, omega arith, up_to_next f k (f m) most less)
     ]
 
 -- an exchange moves two places, and keeps the set of those up to a position past both
-module _ (i j : ℕ) (before after : Order) (moved : Exchanged i j before after) (iIn : i < before.count) (jIn : j < before.count) where
+module _ (i j : ℕ) (before after : Order) (moved : Exchanged i j before after) (i_in : i < before.count) (j_in : j < before.count) where
   at_moved : after.at ≡ swap before.at i j
   at_moved = let e = moved.at in grind (arith, nat_tests)
 
@@ -58,10 +58,10 @@ module _ (i j : ℕ) (before after : Order) (moved : Exchanged i j before after)
   position_moved : (place : ℕ) → place < before.count → position_of after place ≡ other i j (position_of before place)
   position_moved place below =
       ap (λ at. position_in at place) at_moved
-      ∙ position_exchanged before.count before.at i j room before.holds iIn jIn before.has place below
+      ∙ position_exchanged before.count before.at i j room before.holds i_in j_in before.has place below
 
   up_to_moved : (k : ℕ) → i ≤ k → j ≤ k → (place : ℕ) → place < before.count → up_to after k place ≡ up_to before k place
-  up_to_moved k iTo jTo place below = let e = position_moved place below in grind (arith, nat_tests)
+  up_to_moved k i_to j_to place below = let e = position_moved place below in grind (arith, nat_tests)
 
 module _ (M : Meaning) (lawful : Lawful M) (tasks : List Figures) (fair : AllFair tasks) (starts : ℕ → ℕ) where
   -- what counts as above are the other places that hold a task

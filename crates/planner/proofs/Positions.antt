@@ -22,46 +22,46 @@ position_first (p ∷ at) place (suc k) inside here first =
     let ih = position_first at place k (omega arith) here (λ l below. first (suc l) (omega arith)) in
     let differs : p ≡ place → ⊥ = first 0 (omega arith) in grind (arith, nat_tests)
 
-module _ (at : List ℕ) (i j : ℕ) (iIn : i < length at) (jIn : j < length at) where
+module _ (at : List ℕ) (i j : ℕ) (i_in : i < length at) (j_in : j < length at) where
   pub exchanged_at : (k : ℕ) → place_in (swap at i j) k ≡ place_in at (other i j k)
   exchanged_at k =
-      let moved = swapped_from_swap at (swap at i j) i j 0 iIn jIn refl in
+      let moved = swapped_from_swap at (swap at i j) i j 0 i_in j_in refl in
       grind (arith, nat_tests, moved.0, moved.1, moved.2 k)
 
 pub exchanged_back : (at : List ℕ) (i j : ℕ) → i < length at → j < length at → swap (swap at i j) i j ≡ at
-exchanged_back at i j iIn jIn =
+exchanged_back at i j i_in j_in =
     let long = length-swap at i j in
     ext_get_or 0 _ _ (length-swap (swap at i j) i j ∙ long)
     (λ k inside.
     exchanged_at (swap at i j) i j (omega arith) (omega arith) k
-    ∙ exchanged_at at i j iIn jIn (other i j k)
+    ∙ exchanged_at at i j i_in j_in (other i j k)
     ∙ ap (place_in at) (other_back i j k))
 
 -- an exchange keeps places and positions one to one
 module _
-    (n : ℕ) (at : List ℕ) (i j : ℕ) (fits : n ≤ length at) (holds : LeadsBack n (place_in at) (position_in at)) (iIn : i < n)
-    (jIn : j < n) where
-  other-below : (k : ℕ) → k < n → other i j k < n
-  other-below k below = grind (arith, nat_tests)
+    (n : ℕ) (at : List ℕ) (i j : ℕ) (fits : n ≤ length at) (holds : LeadsBack n (place_in at) (position_in at)) (i_in : i < n)
+    (j_in : j < n) where
+  other_below : (k : ℕ) → k < n → other i j k < n
+  other_below k below = grind (arith, nat_tests)
 
   held : (k : ℕ) → place_in (swap at i j) k ≡ place_in at (other i j k)
   held k = exchanged_at at i j (omega arith) (omega arith) k
 
   -- two positions that hold one place are one
   one_position : (k l : ℕ) → k < n → l < n → place_in at k ≡ place_in at l → k ≡ l
-  one_position k l kIn lIn same = sym (holds k kIn).1 ∙ ap (position_in at) same ∙ (holds l lIn).1
+  one_position k l k_in l_in same = sym (holds k k_in).1 ∙ ap (position_in at) same ∙ (holds l l_in).1
 
   position_held : (k : ℕ) → k < n → position_in (swap at i j) (place_in at (other i j k)) ≡ k
   position_held k below =
       position_first (swap at i j) (place_in at (other i j k)) k (omega (arith, length-swap at i j)) (held k)
       (λ l before same.
       let one : other i j l ≡ other i j k =
-      one_position (other i j l) (other i j k) (other-below l (omega arith)) (other-below k below) (sym (held l) ∙ same) in
+      one_position (other i j l) (other i j k) (other_below l (omega arith)) (other_below k below) (sym (held l) ∙ same) in
       grind (arith, nat_tests))
 
   pub still_holds : LeadsBack n (place_in (swap at i j)) (position_in (swap at i j))
   still_holds k below = (
-    rw (held k) (holds (other i j k) (other-below k below)).0,
+    rw (held k) (holds (other i j k) (other_below k below)).0,
     rw (held k) (position_held k below),
   )
 
@@ -72,11 +72,11 @@ module _
     pub position_exchanged : position_in (swap at i j) place ≡ other i j (position_in at place)
     position_exchanged =
         ap (position_in (swap at i j)) (sym back)
-        ∙ position_held (other i j (position_in at place)) (other-below (position_in at place) (has place below).0)
+        ∙ position_held (other i j (position_in at place)) (other_below (position_in at place) (has place below).0)
 
     pub still_has : (position_in (swap at i j) place < n) × (place_in (swap at i j) (position_in (swap at i j) place) ≡ place)
     still_has = (
-      rw position_exchanged (other-below (position_in at place) (has place below).0),
+      rw position_exchanged (other_below (position_in at place) (has place below).0),
       ap (place_in (swap at i j)) position_exchanged ∙ held (other i j (position_in at place)) ∙ back,
     )
 

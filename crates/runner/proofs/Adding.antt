@@ -15,12 +15,12 @@ either_requests true c t o c' t' o' d τ e = refl
 either_requests false c t o c' t' o' d τ e = e
 
 -- p and q have the same tick, 0, and the same units left; q has one task more
-pub added-stands :
+pub added_stands :
     (D : Demands) (p q : Processor) (work period start : ℕ) → p.count < most_tasks → p.tick ≡ 0 → q.tick ≡ p.tick →
     q.left ≡ p.left → q.work ≡ set p.work p.count work → q.period ≡ set p.period p.count period →
     q.next ≡ set p.next p.count start → Stands D p →
     Stands (with_level D p.count (requested work period start)) q
-added-stands D p q work period start room at_zero same-tick same_left new-work new-period new-next s =
+added_stands D p q work period start room at_zero same-tick same_left new-work new-period new-next s =
     record {
       owes = λ l.
           ap (λ τ. owing D' τ l) (same-tick ∙ at_zero) ∙ sym (ap (λ τ. owing D τ l) at_zero) ∙ s.owes l

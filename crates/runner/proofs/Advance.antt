@@ -8,7 +8,7 @@ use Rattle.runner.specs.declared.processor.Processor.{Processor}
 use Rattle.runner.specs.Running.{Stands, SameTasks, WorkEnded, RequestFalls, RunsAt, Ran}
 use Rattle.runner.specs.Steps.{RequestsTaken, ToRun, Soonest, Spent}
 use Rattle.runner.proofs.Cells.{get_d_set}
-use Rattle.runner.proofs.Stretch.{spent, CanRun, spent_same, can_same, owing-after, runs_in}
+use Rattle.runner.proofs.Stretch.{spent, CanRun, spent_same, can_same, owing_after, runs_in}
 use Rattle.runner.proofs.Taking.{demand_of, empty_demands, taken_units, taken_coming, taken_later}
 
 -- what a level of q has left
@@ -90,7 +90,7 @@ module _
 
   owing_then : (l : ℕ) → owing D (p.tick + n) l ≡ left_of r l
   owing_then l =
-      owing-after D p.tick n chosen quiet can_run pass.some l
+      owing_after D p.tick n chosen quiet can_run pass.some l
       ∙ spent_same chosen n (ready D p.tick) (left_of q) ready_is l ∙ sym (pass.left l)
 
   runs_then : (σ : ℕ) → p.tick ≤ σ → σ < p.tick + n → RunsAt D chosen σ

@@ -87,8 +87,8 @@ module _
       let now = quiet l (τ + suc j) (omega arith) (omega arith) in
       omega arith
 
-  pub owing-after : 0 < n → (l : ℕ) → owing D (τ + n) l ≡ spent chosen n (ready D τ) l
-  owing-after pos l =
+  pub owing_after : 0 < n → (l : ℕ) → owing D (τ + n) l ≡ spent chosen n (ready D τ) l
+  owing_after pos l =
       let last : suc (n - 1) ≡ n = omega arith in
       subst (λ k. owing D (τ + k) l ≡ spent chosen k (ready D τ) l) last
       (step (n - 1) (omega arith) (ready_at (n - 1) (omega arith)) l)

@@ -3,7 +3,7 @@ use Rattle.std.proofs.Common.{◌≡◌, ℕ, ◌+◌, ◌-◌, ◌*◌, ◌<◌
 use Rattle.std.proofs.lemmas.Bool.Decides.{nat_tests}
 use Rattle.std.proofs.lemmas.Bool.{cases_lt, cases_eq, cond-true, cond-false, eq-eqb, ne_eqb}
 use Rattle.timeline.specs.Requests.{requested}
-use Rattle.timeline.proofs.Streams.{before_start, request-falls, no_request, left_out}
+use Rattle.timeline.proofs.Streams.{before_start, request_falls, no_request, left_out}
 use Rattle.runner.specs.declared.processor.Processor.{Processor}
 use Rattle.runner.specs.Steps.{RequestsTaken}
 
@@ -14,7 +14,7 @@ falls_at : (c t o τ : ℕ) → o ≡ τ → requested c t o τ ≡ c
 falls_at c t o τ e =
     let z = zero-mul t in
     let at : τ ≡ o + 0 * t = omega arith in
-    ap (requested c t o) at ∙ request-falls c t o 0
+    ap (requested c t o) at ∙ request_falls c t o 0
 
 -- after a request, the requests are those from the next one on
 moves_on : (c t o τ : ℕ) → o < τ → requested c t o τ ≡ requested c t (o + t) τ

@@ -2,7 +2,7 @@
 ghost use Rattle.std.specs.Prelude.{◌≡◌, ◌≤◌, length};
 ghost use Rattle.std.specs.Result.{result_err};
 ghost use Rattle.periods.specs.Multiples.{most_tasks};
-ghost use Rattle.periods.specs.Rows.{periods_of};
+ghost use Rattle.periods.specs.Rows.{periods_of as held_periods};
 ghost use Rattle.std.specs.List.{AllByRecursion};
 ghost use Rattle.tasks.specs.Figures.{Fair};
 ghost use Rattle.tasks.specs.Loads.{periods_in};
@@ -122,7 +122,7 @@ fn check_entries(rows: &[SheetRow]) -> Result<(), WrongEntry>
 pub fn periods_of(rows: &[SheetRow]) -> Periods
     requires few { length rows.now ≤ most_tasks }
     requires fair { AllByRecursion (λ row. Fair row.figures) rows.now }
-    ensures { periods_of result ≡ periods_in (figures_given (timed_in rows.now)) }
+    ensures { held_periods result ≡ periods_in (figures_given (timed_in rows.now)) }
 {
     let mut periods = Periods::new();
     for row in rows {

@@ -2,7 +2,7 @@
 ghost use Rattle.std.specs.Prelude.{◌≡◌, ◌≤◌, map, length};
 ghost use Rattle.std.specs.List.{AllByRecursion};
 ghost use Rattle.periods.specs.Multiples.{most_tasks};
-ghost use Rattle.periods.specs.Rows.{periods_of};
+ghost use Rattle.periods.specs.Rows.{periods_of as held_periods};
 ghost use Rattle.tasks.specs.Figures.{Fair};
 ghost use Rattle.tasks.specs.Loads.{periods_in};
 ghost use Rattle.tasks.specs.declared.figures.Figures.{Figures};
@@ -52,7 +52,7 @@ impl HasFigures for Timed {
 pub(crate) fn periods_of<R: HasFigures>(rows: &[R]) -> Periods
     requires few { length rows.now ≤ most_tasks }
     requires fair { AllByRecursion (λ row. Fair (R.HasFigures.has row)) rows.now }
-    ensures { periods_of result ≡ periods_in (map R.HasFigures.has rows.now) }
+    ensures { held_periods result ≡ periods_in (map R.HasFigures.has rows.now) }
 {
     let mut periods = Periods::new();
     for row in rows {

@@ -5,7 +5,7 @@ use Rattle.timeline.specs.Processor.{Demands, sum_below, owing, done}
 use Rattle.timeline.specs.Requests.{request_tick, requested}
 use Rattle.timeline.proofs.Backlog.{backlog, both, since, sum_below_add, above-owing, same_demand}
 use Rattle.timeline.proofs.Repeats.{Light, Periodic, both_periodic, repeats}
-use Rattle.timeline.proofs.Streams.{up_to_within, up_to-request, stream_periodic}
+use Rattle.timeline.proofs.Streams.{up_to_within, up_to_request, stream_periodic}
 
 -- the tick by which request k is to be done
 abbrev pub due : ℕ → ℕ → ℕ → ℕ → ℕ
@@ -33,7 +33,7 @@ due_at t o d k = let m = ap (λ n. n * t) (let e : suc k - 1 ≡ k = omega arith
 pub come_by_due : (c t o d k : ℕ) → 0 < d → d ≤ t → sum_below (requested c t o) (due t o d (suc k)) ≡ suc k * c
 come_by_due c t o d k pos le =
     ap (sum_below (requested c t o)) (due_at t o d k)
-    ∙ up_to_within c t o k d pos le (up_to-request c t o k (omega arith))
+    ∙ up_to_within c t o k d pos le (up_to_request c t o k (omega arith))
 
 -- units done, by the two backlogs
 pub done-owing : (D : Demands) (l τ : ℕ) → owing D τ l + done D l τ ≡ sum_below (D l) τ

@@ -10,7 +10,7 @@ use Rattle.timeline.specs.Timeline.{task_at, demanded, demands, request_of, done
 use Rattle.timeline.specs.Laws.{Alone}
 use Rattle.timeline.proofs.Backlog.{backlog, both, sum_below_none, sum_below_same}
 use Rattle.timeline.proofs.Members.{joint, sum_exchange}
-use Rattle.timeline.proofs.Streams.{up_to_within, up_to-request}
+use Rattle.timeline.proofs.Streams.{up_to_within, up_to_request}
 use Rattle.timeline.proofs.Lateness.{due, due_at, Behind, done_gap}
 
 -- a level is one of those above another exactly if it is smaller
@@ -83,7 +83,7 @@ come_within c t o R k tpos Rpos =
     let small = mod-lt (R - 1) tpos in
     let m = add-mul k e t in
     let at : due t o R (suc k) ≡ o + (k + e) * t + ρ = let d = due_at t o R k in omega arith in
-    let sum = ap (sum_below (requested c t o)) at ∙ up_to_within c t o (k + e) ρ (omega arith) small (up_to-request c t o (k + e) tpos) in
+    let sum = ap (sum_below (requested c t o)) at ∙ up_to_within c t o (k + e) ρ (omega arith) small (up_to_request c t o (k + e) tpos) in
     let many : suc (k + e) * c ≡ suc k * c + e * c = let x : suc (k + e) ≡ suc k + e = omega arith in ap (λ y. y * c) x ∙ add-mul (suc k) e c in
     sum ∙ many
 

@@ -71,14 +71,14 @@ put_back b c t o d j f f' less k late =
     subst (λ x. Behind b f (requested c t o) x) e' late'
 
 -- A late request is late again h periods later, and so on.
-pub late-later :
+pub late_later :
     (b h m c t o d : ℕ) (f : ℕ → ℕ) → o ≤ m → Periodic (h * t) m f → (n k : ℕ) → Behind b f (requested c t o) (due t o d (suc k)) →
     Behind b f (requested c t o) (due t o d (suc k + n * h))
-late-later b h m c t o d f start per zero k late =
+late_later b h m c t o d f start per zero k late =
     let e : suc k ≡ suc k + 0 * h = let z = zero-mul h in omega arith in
     subst (λ x. Behind b f (requested c t o) (due t o d x)) e late
-late-later b h m c t o d f start per (suc n) k late =
-    let ih = late-later b h m c t o d f start per n k late in
+late_later b h m c t o d f start per (suc n) k late =
+    let ih = late_later b h m c t o d f start per n k late in
     let e₀ : suc k + n * h ≡ suc (k + n * h) = omega arith in
     let ih' = subst (λ x. Behind b f (requested c t o) (due t o d x)) e₀ ih in
     let a = late_again (h * t) m f (requested c t o) per (stream_periodic c t o h m start) (due t o d (suc (k + n * h))) in
@@ -95,7 +95,7 @@ pub leave_out :
     (i : ℕ) × Behind b f' (requested c t (o + j * t)) (due t (o + j * t) d (suc i))
 leave_out b h m c t o d j f f' some tpos start per light light₁ less agree k now =
     let n = m + h * t + j in
-    let late = late-later b h m c t o d f (omega arith) per n k now in
+    let late = late_later b h m c t o d f (omega arith) per n k now in
     let nh : n ≤ n * h = let x = mul-le-mul_left n some in let y = mul-one n in omega arith in
     let nht : n * h ≤ n * h * t = let x = mul-le-mul_left (n * h) tpos in let y = mul-one (n * h) in omega arith in
     let i = (k + n * h) - j in

@@ -63,8 +63,8 @@ module _ (tasks : List Figures) (fair : AllFair tasks) (levels : ℕ → ℕ) (q
         (above_of tasks starts levels q) (above_of tasks (later a starts) levels q) (later_none a starts) (later_same a starts) (suc k) b,
   )
 
-  from-later : (a : ℕ) (starts : ℕ → ℕ) → Somewhere (later a starts) → Somewhere starts
-  from-later a starts (k, b) = (
+  from_later : (a : ℕ) (starts : ℕ → ℕ) → Somewhere (later a starts) → Somewhere starts
+  from_later a starts (k, b) = (
     k,
     unshift_late (after (task_at tasks q).work (task_at tasks q).period R) (task_at tasks q).work (task_at tasks q).period (starts q) R a
         (above_of tasks starts levels q) (above_of tasks (later a starts) levels q) (later_none a starts) (later_same a starts) (suc k) b,
@@ -75,8 +75,8 @@ module _ (tasks : List Figures) (fair : AllFair tasks) (levels : ℕ → ℕ) (q
       counted_mono (higher levels q) (λ p. demanded tasks (skipping tasks times starts) p τ) (λ p. demanded tasks starts p τ) (length tasks)
       (λ p i e. left_out_less (task_at tasks p).work (task_at tasks p).period (starts p) (times p) τ)
 
-  from-skipping : (times starts : ℕ → ℕ) → Somewhere (skipping tasks times starts) → Somewhere starts
-  from-skipping times starts (k, b) = (
+  from_skipping : (times starts : ℕ → ℕ) → Somewhere (skipping tasks times starts) → Somewhere starts
+  from_skipping times starts (k, b) = (
     k + times q,
     put_back (after (task_at tasks q).work (task_at tasks q).period R) (task_at tasks q).work (task_at tasks q).period (starts q) R (times q)
         (above_of tasks starts levels q) (above_of tasks (skipping tasks times starts) levels q) (skip_less times starts) k b,
@@ -160,8 +160,8 @@ module _ (tasks : List Figures) (fair : AllFair tasks) (levels : ℕ → ℕ) (q
 
   moves : (starts others : ℕ → ℕ) → Related (periods_in tasks) starts others → Somewhere starts → Somewhere others
   moves starts others rel s =
-      from-later rel.behind others
-      (from-skipping rel.fewer (later rel.behind others)
+      from_later rel.behind others
+      (from_skipping rel.fewer (later rel.behind others)
       (to_same (skipping tasks rel.more (later rel.ahead starts)) (skipping tasks rel.fewer (later rel.behind others)) meet
       (to_skipping rel.more (later rel.ahead starts) (to_later rel.ahead starts s))))
     where
@@ -208,8 +208,8 @@ module _ (tasks : List Figures) (fair : AllFair tasks) (levels : ℕ → ℕ) (q
   done_rises starts a (suc n) =
       let e = ap (done_by tasks starts levels q) (add-suc a n) in let ih = done_rises starts a n in omega arith
 
-  done-later : (starts : ℕ → ℕ) (a b : ℕ) → a ≤ b → done_by tasks starts levels q a ≤ done_by tasks starts levels q b
-  done-later starts a b le =
+  done_later : (starts : ℕ → ℕ) (a b : ℕ) → a ≤ b → done_by tasks starts levels q a ≤ done_by tasks starts levels q b
+  done_later starts a b le =
       let e : a + (b - a) ≡ b = omega arith in
       let r = done_rises starts a (b - a) in
       let s = ap (done_by tasks starts levels q) e in
@@ -231,7 +231,7 @@ module _ (tasks : List Figures) (fair : AllFair tasks) (levels : ℕ → ℕ) (q
       )
         where
           earlier : (e : ℕ) → Finished tasks starts levels q k e → (e < suc n) ⊎ (suc n ≤ e) → suc n ≤ e
-          earlier e h (inl l) = let r = done-later starts e n (omega arith) in absurd (omega arith)
+          earlier e h (inl l) = let r = done_later starts e n (omega arith) in absurd (omega arith)
           earlier e h (inr l) = l
       go (inr done') ih = later' (ih done')
         where
@@ -248,7 +248,7 @@ module _ (tasks : List Figures) (fair : AllFair tasks) (levels : ℕ → ℕ) (q
         where
           go : ((tick : ℕ) × Finish tasks starts levels q (suc j) tick × (tick ≤ request_of tasks starts q (suc j) + R)) → ⊥
           go (tick, f, le) =
-              let r = done-later starts tick (request_of tasks starts q (suc j) + R) le in let g = f.finished in omega arith
+              let r = done_later starts tick (request_of tasks starts q (suc j) + R) le in let g = f.finished in omega arith
 
       within' : (k : ℕ) → 1 ≤ k → (tick : ℕ) × Finish tasks others levels q k tick × (tick ≤ request_of tasks others q k + R)
       within' k pos = go (cases_lt (done_by tasks others levels q (request_of tasks others q k + R)) (k * c))
@@ -277,7 +277,7 @@ module _ (tasks : List Figures) (fair : AllFair tasks) (levels : ℕ → ℕ) (q
                   let tight : tick ≡ request_of tasks others q (suc j) + R =
                   elim (cases_lt (request_of tasks others q (suc j) + S) tick) [
                     | inl l ↦ omega arith
-                    | inr l ↦ absurd (let r = done-later others tick (request_of tasks others q (suc j) + S) l in let w = g.finished in omega arith)
+                    | inr l ↦ absurd (let r = done_later others tick (request_of tasks others q (suc j) + S) l in let w = g.finished in omega arith)
                   ]
                   in
                   (suc j, omega arith, subst (λ x. Finish tasks others levels q (suc j) x) tight g)

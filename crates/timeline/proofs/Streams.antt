@@ -21,8 +21,8 @@ whereabouts t o τ pos = go (cases_lt τ o)
 pub before_start : (c t o τ : ℕ) → τ < o → requested c t o τ ≡ 0
 before_start c t o τ l = let e = lt-leb o τ l in simp e
 
-pub request-falls : (c t o k : ℕ) → requested c t o (o + k * t) ≡ c
-request-falls c t o k =
+pub request_falls : (c t o k : ℕ) → requested c t o (o + k * t) ≡ c
+request_falls c t o k =
     let e : (o + k * t) - o ≡ k * t = omega arith in
     let z : ((o + k * t) - o) % t ≡ 0 = ap (λ x. x % t) e ∙ mul-mod_left k t in
     let b = eq-eqb (((o + k * t) - o) % t) 0 z in
@@ -58,7 +58,7 @@ up_to_within c t o k (suc r) pos le e = go (cases_eq r 0) (λ p q. up_to_within 
         up_to c t o (o + k * t + suc r) ≡ suc k * c
     go (inl z) _ =
         let here : o + k * t + suc r ≡ suc (o + k * t) = omega arith in
-        ap (up_to c t o) here ∙ (let f = request-falls c t o k in let m = suc-mul k c in omega arith)
+        ap (up_to c t o) here ∙ (let f = request_falls c t o k in let m = suc-mul k c in omega arith)
     go (inr nz) back =
         let ih = back (omega arith) (omega arith) in
         let free = no_request c t o k r (omega arith) le in
@@ -66,14 +66,14 @@ up_to_within c t o k (suc r) pos le e = go (cases_eq r 0) (λ p q. up_to_within 
         let free' : requested c t o (o + k * t + r) ≡ 0 = ap (requested c t o) at ∙ free in
         ap (up_to c t o) place ∙ omega arith
 
-pub up_to-request : (c t o k : ℕ) → 0 < t → up_to c t o (o + k * t) ≡ k * c
-up_to-request c t o zero pos =
+pub up_to_request : (c t o k : ℕ) → 0 < t → up_to c t o (o + k * t) ≡ k * c
+up_to_request c t o zero pos =
     let z = zero-mul t in
     let here : o + 0 * t ≡ o = omega arith in
     ap (up_to c t o) here ∙ up_to_start c t o o (omega arith) ∙ sym (zero-mul c)
-up_to-request c t o (suc k) pos =
+up_to_request c t o (suc k) pos =
     let here : o + suc k * t ≡ o + k * t + t = let m = suc-mul k t in omega arith in
-    ap (up_to c t o) here ∙ up_to_within c t o k t pos (omega arith) (up_to-request c t o k pos)
+    ap (up_to c t o) here ∙ up_to_within c t o k t pos (omega arith) (up_to_request c t o k pos)
 
 -- a sum up to a later tick is one up to an earlier tick and the span between
 pub sum_span : (f : ℕ → ℕ) (a n : ℕ) → sum_below f (a + n) ≡ sum_below f a + brought f a n
@@ -99,15 +99,15 @@ brought-since c t o h a pos le = go (whereabouts t o a pos)
     go (inr (k, zero, lt, e)) =
         let ea : a ≡ o + k * t = omega arith in
         let eb : a + h * t ≡ o + (k + h) * t = let m = add-mul k h t in omega arith in
-        let ua = ap (up_to c t o) ea ∙ up_to-request c t o k pos in
-        let ub = ap (up_to c t o) eb ∙ up_to-request c t o (k + h) pos in
+        let ua = ap (up_to c t o) ea ∙ up_to_request c t o k pos in
+        let ub = ap (up_to c t o) eb ∙ up_to_request c t o (k + h) pos in
         let m = add-mul k h c in
         omega (arith, span)
     go (inr (k, suc r, lt, e)) =
         let ea : a ≡ o + k * t + suc r = omega arith in
         let eb : a + h * t ≡ o + (k + h) * t + suc r = let m = add-mul k h t in omega arith in
-        let ua = ap (up_to c t o) ea ∙ up_to_within c t o k (suc r) (omega arith) (omega arith) (up_to-request c t o k pos) in
-        let ub = ap (up_to c t o) eb ∙ up_to_within c t o (k + h) (suc r) (omega arith) (omega arith) (up_to-request c t o (k + h) pos) in
+        let ua = ap (up_to c t o) ea ∙ up_to_within c t o k (suc r) (omega arith) (omega arith) (up_to_request c t o k pos) in
+        let ub = ap (up_to c t o) eb ∙ up_to_within c t o (k + h) (suc r) (omega arith) (omega arith) (up_to_request c t o (k + h) pos) in
         let m = add-mul k h c in
         let m₁ = suc-mul k c in
         let m₂ = suc-mul (k + h) c in
@@ -121,7 +121,7 @@ brought_most c t o h a pos = go (cases_lt a o)
     go (inl l) =
         let s = sum_span (requested c t o) a (h * t) in
         let r = sum_rises (requested c t o) (a + h * t) (o + h * t) (omega arith) in
-        let u = up_to-request c t o h pos in
+        let u = up_to_request c t o h pos in
         omega arith
     go (inr l) = omega (arith, brought-since c t o h a pos l)
 

@@ -3,7 +3,7 @@ use Rattle.std.proofs.Common.{◌≡◌, ℕ, zero, suc, ◌+◌, ◌-◌, ◌*�
 use Rattle.std.proofs.lemmas.Bool.{cases_lt, cases_eq}
 use Rattle.timeline.specs.Requests.{requested}
 use Rattle.timeline.proofs.Backlog.{backlog, both, since, brought, sum_below_add, sum_below_same, below_both, split, busy}
-use Rattle.timeline.proofs.Streams.{sum_span, before_start, request-falls, no_request}
+use Rattle.timeline.proofs.Streams.{sum_span, before_start, request_falls, no_request}
 use Rattle.timeline.proofs.Lateness.{due, due_at, Behind, behind_dec}
 
 -- nothing of the demand g is left at a tick, below the demand f
@@ -68,9 +68,9 @@ one_request g r (suc n) c pos falls quiet = go (cases_eq n 0) (λ p. one_request
 
 -- a request of c units that falls at r, with nothing left before, is done by r + R
 module _ (c R : ℕ) (f g : ℕ → ℕ) (cpos : 0 < c) (fits : (v : ℕ) → brought f v R + c ≤ R) where
-  served-in_time :
+  served_in_time :
       (r : ℕ) → Level f g r → g r ≡ c → ((j : ℕ) → 0 < j → j < R → g (r + j) ≡ 0) → Level f g (r + R)
-  served-in_time r level falls quiet = go (last_empty f r)
+  served_in_time r level falls quiet = go (last_empty f r)
     where
       go : ((v : ℕ) × (v ≤ r) × (backlog f v ≡ 0) × ((u : ℕ) → v < u → u ≤ r → 0 < backlog f u)) → Level f g (r + R)
       go (v, le, empty, busy') = early (cases_lt r (v + R))
@@ -131,14 +131,14 @@ module _ (c t o R : ℕ) (f : ℕ → ℕ) (cpos : 0 < c) (Rpos : 0 < R) (within
   quiet_after : (k j : ℕ) → 0 < j → j < t → requested c t o (o + k * t + j) ≡ 0
   quiet_after k j pos l = ap (requested c t o) (add_assoc o (k * t) j) ∙ no_request c t o k j pos l
 
-  level_at-request : (k : ℕ) → Level f (requested c t o) (o + k * t)
-  level_at-request zero =
+  level_at_request : (k : ℕ) → Level f (requested c t o) (o + k * t)
+  level_at_request zero =
       let z = zero-mul t in
       let at : 0 + o ≡ o + 0 * t = omega arith in
       subst (λ x. Level f (requested c t o) x) at
       (stays_level f (requested c t o) 0 o refl (λ j l. before_start c t o (0 + j) (omega arith)))
-  level_at-request (suc k) =
-      let served = served-in_time c R f (requested c t o) cpos fits (o + k * t) (level_at-request k) (request-falls c t o k)
+  level_at_request (suc k) =
+      let served = served_in_time c R f (requested c t o) cpos fits (o + k * t) (level_at_request k) (request_falls c t o k)
       (λ j pos l. quiet_after k j pos (omega arith))
       in
       let e : o + k * t + R + (t - R) ≡ o + suc k * t = let m = suc-mul k t in omega arith in
@@ -148,7 +148,7 @@ module _ (c t o R : ℕ) (f : ℕ → ℕ) (cpos : 0 < c) (Rpos : 0 < R) (within
 
   pub in_time_lem : (d k : ℕ) → R ≤ d → d ≤ t → backlog (both f (requested c t o)) (due t o d (suc k)) ≡ backlog f (due t o d (suc k))
   in_time_lem d k low high =
-      let served = served-in_time c R f (requested c t o) cpos fits (o + k * t) (level_at-request k) (request-falls c t o k)
+      let served = served_in_time c R f (requested c t o) cpos fits (o + k * t) (level_at_request k) (request_falls c t o k)
       (λ j pos l. quiet_after k j pos (omega arith))
       in
       let e : o + k * t + R + (d - R) ≡ due t o d (suc k) = let m = due_at t o d k in omega arith in

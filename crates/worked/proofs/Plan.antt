@@ -38,9 +38,9 @@ worked_plan =
     }
 
 -- rows one by one
-pub the-rows :
+pub the_rows :
     (a b c : SheetRow) → a ≡ planned_row 1 3 8 0 → b ≡ planned_row 2 6 12 0 → c ≡ planned_row 3 1 12 10 → (a ∷ b ∷ c ∷ []) ≡ planned_rows
-the-rows a b c first second third = cc
+the_rows a b c first second third = cc
 
 -- the rows are without fault
 pub sound : rows_fault planned_rows ≡ None

@@ -12,7 +12,7 @@ use Rattle.timeline.proofs.Backlog.{backlog, both}
 use Rattle.timeline.proofs.Levels.{above_of, own_of, done_is}
 use Rattle.timeline.proofs.Laws.{undone_early}
 use Rattle.timeline.proofs.Related.{has_finish}
-use Rattle.lateness.proofs.Stops.{done-later}
+use Rattle.lateness.proofs.Stops.{done_later}
 use Rattle.worked.proofs.Tested.{all_below, all_at, all_hold, holds, implies, implied}
 
 -- all of some tasks are fair
@@ -136,7 +136,7 @@ module _ (tasks : List Figures) (starts levels : ℕ → ℕ) (q : ℕ) where
 
       pub never_late : NeverLate tasks starts levels q
       never_late k late =
-          let r = done-later (demands tasks starts levels) (levels q) (request_of tasks starts q k + R) (deadline_of tasks starts q k) (omega (arith, short)) in
+          let r = done_later (demands tasks starts levels) (levels q) (request_of tasks starts q k + R) (deadline_of tasks starts q k) (omega (arith, short)) in
           omega (arith, all_done k)
 
       pub worst_response : WorstResponse tasks starts levels q R
@@ -151,7 +151,7 @@ module _ (tasks : List Figures) (starts levels : ℕ → ℕ) (q : ℕ) where
               elim (cases_lt earlier (request_of tasks starts q j + R)) [
                 | inl l ↦
                     let undone = ltb-true (ran (request_of tasks starts q j + R - 1)) (j * (task_at tasks q).work) (holds tests test 12) in
-                    let r = done-later (demands tasks starts levels) (levels q) earlier (request_of tasks starts q j + R - 1) (omega arith) in
+                    let r = done_later (demands tasks starts levels) (levels q) earlier (request_of tasks starts q j + R - 1) (omega arith) in
                     absurd (omega (arith, done_is_ran (request_of tasks starts q j + R - 1)))
                 | inr l ↦ l
               ]

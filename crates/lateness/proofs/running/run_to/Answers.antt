@@ -1,5 +1,5 @@
 use Rattle.std.proofs.Common.{arith}
-use Rattle.lateness.proofs.Stops.{ran_here, ran-other, is_level, not_level}
+use Rattle.lateness.proofs.Stops.{ran_here, ran_other, is_level, not_level}
 use Rattle.lateness.proofs.running.run_to.Goals as goal
 
 pub loop-span-preserved-then-eq : goal.loop-span-preserved-then-eq
@@ -15,4 +15,4 @@ pub loop-span-preserved : goal.loop-span-preserved
 loop-span-preserved c =
     let ran = c.in-Some.ensures in
     let other = not_level c.in-Some.span.runs c.args.level c.if-eq.ensures in
-    (ran-other c.args.processor.now c.args.level c.loop-span.stopped c.loop-span.processor _ _ _ c.loop-span.invariant.0 ran other, omega arith)
+    (ran_other c.args.processor.now c.args.level c.loop-span.stopped c.loop-span.processor _ _ _ c.loop-span.invariant.0 ran other, omega arith)

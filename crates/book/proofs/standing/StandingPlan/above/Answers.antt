@@ -2,7 +2,7 @@ use Rattle.std.proofs.Common.{length, ap, ◌∙◌, arith}
 use Rattle.tasks.specs.Places.{has}
 use Rattle.charts.specs.Plans.{level_of}
 use Rattle.sheets.proofs.Soundness.{count_from_sound}
-use Rattle.book.proofs.Rows.{level_at_lem, above-added, above-passed}
+use Rattle.book.proofs.Rows.{level_at_lem, above_added, above_passed}
 use Rattle.book.proofs.standing.StandingPlan.above.Goals as goal
 use Rattle.book.proofs.standing.StandingPlan.above.Goals.{then-row-rows, else-row-rows}
 
@@ -16,9 +16,9 @@ loop-other-preserved c q =
     let there = level_at_lem rows place (omega (arith, ap length c.rows-rows.ensures.value)) in
     elim c.if-row-rows.branch [
       | then-row-rows w ↦
-          above-added (level_of rows) place other q _ (c.loop-other.invariant q) (has c.if-row-rows.above q) (omega arith)
+          above_added (level_of rows) place other q _ (c.loop-other.invariant q) (has c.if-row-rows.above q) (omega arith)
           (omega (arith, w.if-row-rows.true)) (ap (λ places. has places q) w.above-is ∙ w.add.ensures q)
       | else-row-rows w ↦
           ap (λ places. has places q) w.above-is
-          ∙ above-passed (level_of rows) place other q _ (c.loop-other.invariant q) (omega (arith, w.if-row-rows.false))
+          ∙ above_passed (level_of rows) place other q _ (c.loop-other.invariant q) (omega (arith, w.if-row-rows.false))
     ]

@@ -1,7 +1,7 @@
 use Rattle.std.proofs.Common.{◌<◌, ◌≢◌, length, set, refl, ap, ◌∙◌, arith, length-set, below_more}
 use Rattle.std.proofs.lemmas.Bool.Decides.{nat_tests}
 use Rattle.std.proofs.lemmas.List.{get_or-set_same, get_or-set_other}
-use Rattle.runner.proofs.Adding.{added-stands}
+use Rattle.runner.proofs.Adding.{added_stands}
 use Rattle.runner.proofs.processor.Processor.add.Goals as goal
 
 pub invariant_of-self : goal.invariant_of-self
@@ -32,7 +32,7 @@ returns c =
         tick = refl;
         count = refl;
         stands = λ D.
-            added-stands D p _ _ _ _ (omega arith) (omega arith) refl refl
+            added_stands D p _ _ _ _ (omega arith) (omega arith) refl refl
             (ap (set p.work p.count) work) (ap (set p.period p.count) period) refl;
       };
     }
