@@ -1,5 +1,5 @@
 -- A task of a book that has a plan.
-use Rattle.std.proofs.Common.{◌≡◌, ℕ, ◌-◌, ◌≤◌, true, List, [], ◌∷◌, length, Some, None, Ok, Option, sym, refl, ap, ◌∙◌, subst, arith}
+use Rattle.std.proofs.Common.{◌≡◌, ℕ, ◌-◌, ◌<◌, ◌≤◌, true, List, [], ◌∷◌, length, Some, None, Ok, Option, sym, refl, ap, ◌∙◌, subst, arith}
 use lib.ListN.{length-map}
 use Rattle.std.proofs.lemmas.Bool.Decides.{nat_tests}
 use Rattle.refusals.specs.Answers.{answer}
@@ -8,11 +8,12 @@ use Rattle.tasks.specs.Rows.{row_of, place_of, stands, unknown_refusal}
 use Rattle.tasks.specs.declared.rows.Row.{Row}
 use Rattle.sheets.specs.Sheets.{rows_of}
 use Rattle.sheets.specs.declared.row.SheetRow.{SheetRow}
-use Rattle.book.specs.Books.{rows_in, plan_rows, place_in, ask_refusal, rows_held, plan_held, plan_rows_held}
-use Rattle.book.specs.Finding.{FoundAt}
+use Rattle.book.specs.Books.{rows_in, plan_rows, place_in, rows_held, plan_rows_held}
+use Rattle.book.specs.Finding.{FoundAt, plan_of}
 use Rattle.book.specs.declared.book.Book.{Book}
 use Rattle.book.specs.declared.book.Held.TheVariants.{Plan}
 use Rattle.book.specs.declared.standing.StandingPlan.{StandingPlan}
+use Rattle.book.specs.declared.standing.task.PlannedTask.{PlannedTask}
 
 place_positive : (id : ℕ) (rows : List Row) → 1 ≤ place_of id rows
 place_positive id [] = omega arith
@@ -32,36 +33,33 @@ module _ (id place : ℕ) (rows : List Row) (answered : Ok place ≡ answer (unk
   pub place_known : 1 ≤ place
   place_known = omega (arith, (told (unknown_refusal id rows) (place_of id rows) place answered).1, place_positive id rows)
 
-  pub found :
-      {J : Type 0} (book : Book J) (plan : StandingPlan) → book.held ≡ Plan plan → rows ≡ rows_in book →
-      (ask_refusal book id ≡ None) × FoundAt book id (plan, place - 1)
-  found book plan standing same =
-      let known = told (unknown_refusal id rows) (place_of id rows) place answered in
-      let accepted : unknown_refusal id (rows_in book) ≡ None = ap (unknown_refusal id) (sym same) ∙ known.0 in
-      let planned = ap plan_held standing in
-      let held = ap rows_held standing in
-      let at : place ≡ place_of id (rows_in book) = known.1 ∙ ap (place_of id) same in
-      let here : stands id (rows_in book) ≡ true = grind (arith, nat_tests) in (
-        grind (arith, nat_tests),
-        record {
-          stands = standing;
-          inside =
-              omega (
-                arith,
-                place_positive id (rows_in book),
-                place_inside id (rows_in book) here,
-                ap length held,
-                length-map (rows_of plan.sheet) (λ row. row_of row.id row.figures),
-              );
-          place = ap (λ n. n - 1) at;
-        },
-      )
+  -- where the rows are those of a book, the question is not refused for its id, and the place is that of the id there
+  module _ {J : Type 0} (book : Book J) (same : rows ≡ rows_in book) where
+    pub known_in : unknown_refusal id (rows_in book) ≡ None
+    known_in = ap (unknown_refusal id) (sym same) ∙ (told (unknown_refusal id rows) (place_of id rows) place answered).0
 
--- what holds of the plan at a place holds of the book's at the place of the id
+    pub placed : place - 1 ≡ place_in book id
+    placed = ap (λ n. n - 1) ((told (unknown_refusal id rows) (place_of id rows) place answered).1 ∙ ap (place_of id) same)
+
+    -- a plan that stands has a task there
+    pub place_held : (plan : StandingPlan) → book.held ≡ Plan plan → place - 1 < length (rows_of plan.sheet)
+    place_held plan standing =
+        let known = known_in in
+        let here : stands id (rows_in book) ≡ true = grind (arith, nat_tests) in
+        omega (
+          arith,
+          placed,
+          place_positive id (rows_in book),
+          place_inside id (rows_in book) here,
+          ap length (ap rows_held standing),
+          length-map (rows_of plan.sheet) (λ row. row_of row.id row.figures),
+        )
+
+-- what holds of a task of the plan that stands holds of the book's rows at the place of the id
 pub of_found :
-    {J : Type 0} (book : Book J) (id : ℕ) (plan : StandingPlan) (place : ℕ) → FoundAt book id (plan, place) →
-    (P : List SheetRow → ℕ → Type 0) → P (rows_of plan.sheet) place → P (plan_rows book) (place_in book id)
-of_found book id plan place at P holds =
-    let Rows : List SheetRow → Type 0 = λ rows. P rows place in
+    {J : Type 0} (book : Book J) (id : ℕ) (task : PlannedTask) → FoundAt book id task →
+    (P : List SheetRow → ℕ → Type 0) → P (plan_of task) task.place → P (plan_rows book) (place_in book id)
+of_found book id task at P holds =
+    let Rows : List SheetRow → Type 0 = λ rows. P rows task.place in
     let Place : ℕ → Type 0 = λ n. P (plan_rows book) n in
     subst Place at.place (subst Rows (sym (ap plan_rows_held at.stands)) holds)

@@ -1,8 +1,8 @@
 -- From a plan of the planner to rows of a sheet on which nobody is late.
-use Rattle.std.proofs.Common.{◌≡◌, ℕ, ◌<◌, ◌≤◌, ltb, List, length, get_or, take, None, sym, refl, ap, ◌∙◌, subst, arith, length-take}
+use Rattle.std.proofs.Common.{◌≡◌, ℕ, ◌<◌, ◌≤◌, ltb, List, length, get_or, None, sym, refl, ◌∙◌, subst, arith}
 use lib.ListN.{length-map}
 use Rattle.std.proofs.ByRecursion.{All-from_get_or}
-use Rattle.std.proofs.lemmas.List.{get_or-take}
+use Rattle.std.proofs.lemmas.List.{take_all}
 use Rattle.periods.specs.Listed.{choices_refusal, start_of as start_of_listed}
 use Rattle.periods.specs.Multiples.{most_tasks}
 use Rattle.periods.proofs.Ranks.{listed_below_period}
@@ -14,11 +14,11 @@ use Rattle.tasks.specs.declared.figures.Figures.{Figures}
 use Rattle.tasks.specs.declared.rows.Row.{Row}
 use Rattle.tasks.specs.declared.rows.Timed.{Timed}
 use Rattle.tasks.specs.declared.table.Table.{Table}
-use Rattle.tasks.proofs.Ordered.{rising_from_tidy, fair_from_tidy}
+use Rattle.tasks.proofs.Ordered.{rising_from_tidy, fair_from_tidy, few_rows}
 use Rattle.timeline.specs.Laws.{AllFair}
 use Rattle.judges.specs.Meaning.{Meaning, Lawful}
 use Rattle.planner.specs.Orders.{PassingOrder}
-use Rattle.planner.specs.Plans.{Planned as PlannedBy, PassingPlan, start_at, level_at, starts_in as starts_in_plan, timed}
+use Rattle.planner.specs.Plans.{Planned as PlannedBy, PassingPlan, start_at, level_at, count_of, given_in, starts_in as starts_in_plan, timed}
 use Rattle.planner.specs.declared.plan.Plan.{Plan}
 use Rattle.planner.proofs.Fairness.{table_fair}
 use Rattle.planner.proofs.Rows.{length-timed, timed_figures, fair_timed, timely_timed, proper_periods, period_known}
@@ -49,7 +49,7 @@ module _ (M : Meaning) (lawful : Lawful M) (table : Table) (plan : Plan) (planne
   abbrev planned_rows : List SheetRow
   planned_rows = with_plan (rows_of table) (start_at plan) (level_at plan)
 
-  pub planned_whole : plan.count ≡ length (rows_of table)
+  pub planned_whole : count_of plan ≡ length (rows_of table)
   planned_whole = planned.count ∙ length-map (rows_of table) (λ row. row.figures)
 
   same_tasks : tasks_of planned_rows ≡ figures_in table
@@ -59,20 +59,21 @@ module _ (M : Meaning) (lawful : Lawful M) (table : Table) (plan : Plan) (planne
   long = length-with_plan (rows_of table) (start_at plan) (level_at plan)
 
   few : length (rows_of table) ≤ most_tasks
-  few = omega (arith, table.few, length-take table.count table.rows)
+  few = few_rows table
 
   same_level : (q : ℕ) → q < length (rows_of table) → level_at plan q ≡ level_of planned_rows q
   same_level q inside = sym (level_of-with_plan (rows_of table) (start_at plan) (level_at plan) q inside)
 
   same_starts : starts_in_plan plan ≡ starts_in planned_rows
   same_starts =
-      ap (λ n. take n plan.starts) planned_whole
-      ∙ sym (starts_in-with_plan (rows_of table) plan.starts (level_at plan) (omega (arith, plan.starts_width, few)))
+      let many : length (starts_in_plan plan) ≡ length (rows_of table) = length-map (given_in plan) (λ task. task.start) ∙ planned_whole in
+      sym (take_all (length (rows_of table)) (starts_in_plan plan) (omega arith))
+      ∙ sym (starts_in-with_plan (rows_of table) (starts_in_plan plan) (level_at plan) (omega arith))
 
   passing : PassingPlan M (figures_in table) (starts_in_plan plan) (level_at plan)
   passing =
       let start : (q : ℕ) → q < length (figures_in table) → start_at plan q ≡ start_of_listed (starts_in_plan plan) q =
-      λ q inside. sym (get_or-take plan.count plan.starts q 0 (omega (arith, planned.count))) in
+      λ q inside. refl in
       record {
         listed = planned.listed;
         ordered = record {
@@ -115,7 +116,8 @@ module _ (M : Meaning) (lawful : Lawful M) (table : Table) (plan : Plan) (planne
         omega (
           arith,
           listed_below_period ts (starts_in_plan plan) q (proper_periods (figures_in table) (table_fair table)) planned.listed (omega arith),
-          get_or-take plan.count plan.starts q 0 (omega (arith, planned_whole)),
+          length-map (given_in plan) (λ task. task.start),
+          planned_whole,
         )
 
     forms_case : FormsCase (timed (rows_of table) (start_at plan))

@@ -8,6 +8,7 @@ use Rattle.tasks.specs.Places.{has}
 use Rattle.tasks.specs.Timed.{figures_given}
 use Rattle.tasks.specs.declared.case.Case.{Case}
 use Rattle.tasks.specs.declared.figures.Figures.{Figures}
+use Rattle.tasks.specs.declared.judged.Judged.{Judged}
 use Rattle.tasks.specs.declared.places.Places.{Places}
 use Rattle.timeline.specs.Laws.{Alone}
 use Rattle.timeline.specs.Timeline.{InTimeBelow, Late, WorstResponse, below_those}
@@ -20,6 +21,16 @@ use Rattle.book.specs.Punctual.{NoneLate}
 use Rattle.book.proofs.Below.{late_in_order, response_in_order}
 use Rattle.book.proofs.Planning.{length-tasks_of}
 use Rattle.book.proofs.Rows.{starts_of_lem}
+
+-- what holds of a judged task holds of the case, the place and the set that it was made of
+pub of_judged :
+    (judged : Judged) (case : Case) (place : ℕ) (above : Places) → judged.case.now ≡ case → judged.place ≡ place → judged.above.now ≡ above →
+    (P : Case → ℕ → Places → Type 0) → P judged.case.now judged.place judged.above.now → P case place above
+of_judged judged case place above same-case same_place same-above P holds =
+    let OfCase : Case → Type 0 = λ x. P x judged.place judged.above.now in
+    let OfPlace : ℕ → Type 0 = λ x. P case x judged.above.now in
+    let OfAbove : Places → Type 0 = λ x. P case place x in
+    subst OfAbove same-above (subst OfPlace same_place (subst OfCase same-case holds))
 
 -- the case of some rows, and the places of smaller level
 module _

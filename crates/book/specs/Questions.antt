@@ -16,8 +16,17 @@ use Rattle.book.specs.declared.book.Book.{Book}
 use Rattle.book.specs.Books.{plan_rows, place_in, ask_refusal}
 use Rattle.book.specs.Plans.{above}
 
+-- the worst response of the task at a place of a plan, on the endless timeline of all the tasks
+abbrev pub RespondsAt : List SheetRow → ℕ → ℕ → Type 0
+RespondsAt rows place response = WorstResponse (tasks_of rows) (start_of rows) (level_of rows) place response
+
+-- its reckoned response, with those of smaller level above; it is absent exactly on a no
+abbrev pub ReckonedAt : Meaning → Reckoning → List SheetRow → ℕ → Option ℕ → Type 0
+ReckonedAt M N rows place response =
+    Tells response (M (tasks_of rows) (start_of rows) place (above rows place)) (N (tasks_of rows) (start_of rows) place (above rows place))
+
 module _ {J : Type 0} (book : Book J) where
-  -- a task's start, its level, and its worst response on the endless timeline of all the tasks
+  -- a task's start, its level, and its worst response
   abbrev pub start_answer : ℕ → Result ℕ Refusal
   start_answer id = answer (ask_refusal book id) (start_of (plan_rows book) (place_in book id))
 
@@ -25,18 +34,11 @@ module _ {J : Type 0} (book : Book J) where
   level_answer id = answer (ask_refusal book id) (level_of (plan_rows book) (place_in book id))
 
   abbrev pub Responded : ℕ → Result ℕ Refusal → Type 0
-  Responded id =
-      AnswersWith (ask_refusal book id)
-      (WorstResponse (tasks_of (plan_rows book)) (start_of (plan_rows book)) (level_of (plan_rows book)) (place_in book id))
+  Responded id = AnswersWith (ask_refusal book id) (RespondsAt (plan_rows book) (place_in book id))
 
-  -- a task's reckoned response, with those of smaller level above; it is absent exactly on a no
+  -- a task's reckoned response
   abbrev pub Reckoned : Meaning → Reckoning → ℕ → Result (Option ℕ) Refusal → Type 0
-  Reckoned M N id =
-      AnswersWith (ask_refusal book id)
-      (λ response.
-      Tells response
-      (M (tasks_of (plan_rows book)) (start_of (plan_rows book)) (place_in book id) (above (plan_rows book) (place_in book id)))
-      (N (tasks_of (plan_rows book)) (start_of (plan_rows book)) (place_in book id) (above (plan_rows book) (place_in book id))))
+  Reckoned M N id = AnswersWith (ask_refusal book id) (ReckonedAt M N (plan_rows book) (place_in book id))
 
 -- the sheet of a plan fills the front of a buffer, if it has room for it; the rest of the buffer stays
 pub record Filed (rows : List SheetRow) (before : List ℕ) (r : Result ℕ Refusal) (after : List ℕ) : Type 0 where

@@ -5,6 +5,9 @@ ghost use Rattle.sheets.specs.Sheets.{rows_of};
 use sheets::Sheet;
 
 mod calls;
+mod task;
+
+pub(crate) use task::PlannedTask;
 
 // A sheet on whose endless timeline no request is late.
 #[derive(Clone, Copy)]

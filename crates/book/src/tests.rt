@@ -192,13 +192,13 @@ fn a_chart_needs_a_plan_then_a_window_and_then_room(rt: HostRuntime) -> Result<(
     let mut slots = [blank];
     let mut book = polisher()?;
     let mut list = List::new(&mut slots);
-    assert_eq!(rt; book.chart(2, 1, &mut list), Err(Refusal::NoStandingPlan));
+    assert_eq!(rt; book.chart(2..1, &mut list), Err(Refusal::NoStandingPlan));
     book.plan()?;
-    assert_eq!(rt; book.chart(2, 1, &mut list), Err(Refusal::WrongWindow));
-    assert_eq!(rt; book.chart(0, 59, &mut list), Err(Refusal::WrongWindow));
-    assert_eq!(rt; book.chart(0, 58, &mut list), Err(Refusal::ListTooShort));
+    assert_eq!(rt; book.chart(2..1, &mut list), Err(Refusal::WrongWindow));
+    assert_eq!(rt; book.chart(0..59, &mut list), Err(Refusal::WrongWindow));
+    assert_eq!(rt; book.chart(0..58, &mut list), Err(Refusal::ListTooShort));
     assert_eq!(rt; list.len(), 0);
-    assert_eq!(rt; book.chart(23, 24, &mut list), Ok(()));
+    assert_eq!(rt; book.chart(23..24, &mut list), Ok(()));
     assert_eq!(rt;
         list.entries(),
         [Bar {

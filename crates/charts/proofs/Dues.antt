@@ -1,30 +1,26 @@
 -- The walk along the deadlines, place by place and tick by tick.
 use Rattle.std.proofs.Common.{◌≡◌, ℕ, ◌+◌, ◌<◌, ◌≤◌, true, false, ◌⊎◌, List, length, is_some, Some, None, Option, sym, ap, ◌∙◌, subst, inl, inr, arith}
 use Rattle.std.proofs.lemmas.Bool.{cases_lt, cases_eq}
-use Rattle.timeline.specs.Processor.{Demands}
 use Rattle.timeline.specs.Timeline.{deadline_of}
-use Rattle.runner.specs.declared.processor.Processor.{Processor}
-use Rattle.runner.specs.declared.span.Span.{Span}
 use Rattle.runner.specs.Levels.{last_tick}
-use Rattle.runner.specs.Running.{Stands, Advanced}
+use Rattle.runner.specs.Running.{Stands}
 use Rattle.entries.specs.declared.LateRequest.{LateRequest}
 use Rattle.sheets.specs.declared.row.SheetRow.{SheetRow}
+use Rattle.sheets.specs.Sheets.{rows_of}
+use Rattle.sheets.specs.declared.sheet.Sheet.{Sheet}
 use Rattle.sheets.proofs.Held.{few_rows}
+use Rattle.sheets.proofs.Soundness.{sheet_sound}
 use Rattle.charts.specs.declared.deadlines.Deadlines.{Deadlines}
-use Rattle.charts.specs.Dues.{LateNow, LateAt, Reached, Still, Skipped, Found, NextHere, places_left}
+use Rattle.charts.specs.Dues.{LateNow, LateAt, LateAhead, Still, Skipped, Found, NextHere}
 use Rattle.charts.specs.LateRequests.{request_at, IsLate, Before, InOrder}
-use Rattle.charts.specs.Plans.{tasks_of, start_of, id_of}
+use Rattle.charts.specs.Plans.{tasks_of, start_of, id_of, demands_of, from_zero, horizon}
 use Rattle.charts.specs.Walks.{Gave, Gives}
 use Rattle.charts.proofs.Ordered.{same_order, none_in_order, none_only, one_more_first, only_first}
 use Rattle.charts.proofs.Owed.{ids_rise}
 
-pub skipped_none : (w : Deadlines) → Reached w → Skipped w w
-skipped_none w reached = record { reached = reached; falls = omega arith; still = λ e s. s; back = λ e s. s }
-
 pub skipped_on : (w w' w'' : Deadlines) → Skipped w w' → Skipped w' w'' → Skipped w w''
 skipped_on w w' w'' first then =
     record {
-      reached = then.reached;
       falls = omega (arith, first.falls, then.falls);
       still = λ e s. then.still e (first.still e s);
       back = λ e s. first.back e (then.back e s);
@@ -33,7 +29,6 @@ skipped_on w w' w'' first then =
 pub found_on : (w w' w'' : Deadlines) (e : LateRequest) → Skipped w w' → Found w' e w'' → Found w e w''
 found_on w w' w'' e first then =
     record {
-      reached = then.reached;
       falls = omega (arith, first.falls, then.falls);
       here = first.back e then.here;
       others = λ other s. then.others other (first.still other s);
@@ -48,19 +43,17 @@ same_request rows place j k same =
     λ i. record { id = id_of rows place; request = (let r : (request_at rows place j).request ≡ (request_at rows place k).request = omega arith in r) i; deadline = same i }
 
 -- a place further
-module _ (w : Deadlines) (reached : Reached w) (inside : w.place < length w.rows.now) where
+module _ (w : Deadlines) (here : w.place < length (rows_of w.sheet.now)) (stands : Stands (from_zero (demands_of (rows_of w.sheet.now))) w.processor)
+    (inside : w.place + 1 ≤ length (rows_of w.sheet.now)) (told : w.last ≡ horizon (rows_of w.sheet.now)) (near : w.last < last_tick) where
   abbrev rows : List SheetRow
-  rows = w.rows.now
+  rows = rows_of w.sheet.now
 
   abbrev tick : ℕ
   tick = w.processor.tick
 
   abbrev pub passed : Deadlines
-  passed = record { rows = w.rows; processor = w.processor; place = w.place + 1; last = w.last }
-
-  still_reached : Reached passed
-  still_reached =
-      record { sound = reached.sound; stands = reached.stands; place = omega arith; last = reached.last; near = reached.near }
+  passed =
+      record { sheet = w.sheet; processor = w.processor; place = w.place + 1; last = w.last; stands = stands; inside = inside; told = told; near = near }
 
   back : (e : LateRequest) → Still passed e → Still w e
   back e still =
@@ -86,21 +79,19 @@ module _ (w : Deadlines) (reached : Reached w) (inside : w.place < length w.rows
   pub skip_place : LateAt rows w.place tick None → Skipped w passed
   skip_place none =
       record {
-        reached = still_reached;
         falls = omega arith;
         still = λ e s. elim (ahead_or_here e s) [ inl here ↦ absurd (none here.0 here.1) | inr ahead ↦ ahead ];
         back = back;
       }
 
   pub found_place : (e : LateRequest) → tick ≤ w.last → LateAt rows w.place tick (Some e) → Found w e passed
-  found_place e near (k, late, is) =
-      let few = few_rows rows reached.sound in
+  found_place e due_now (k, late, is) =
+      let few = few_rows rows (sheet_sound w.sheet.now) in
       let due : e.deadline ≡ tick = ap (λ r. r.deadline) is ∙ late.0 in
       record {
-        reached = still_reached;
         falls = omega arith;
         here = record {
-          late = record { place = w.place; k = k; inside = inside; is = is; late = late.1; told = omega (arith, reached.last) };
+          late = record { place = w.place; k = k; inside = here; is = is; late = late.1; told = omega arith };
           later = inr (due, omega arith);
         };
         others = λ other s. elim (ahead_or_here other s) [
@@ -117,68 +108,22 @@ module _ (w : Deadlines) (reached : Reached w) (inside : w.place < length w.rows
       before other s (inr (at, le)) due =
           let mine = ap (λ r. r.id) is in
           let its = ap (λ r. r.id) s.late.is in
-          inr (due ∙ sym at, omega (arith, ids_rise 1 rows reached.sound.rising w.place s.late.place (omega arith) s.late.inside))
+          inr (due ∙ sym at, omega (arith, ids_rise 1 rows (sheet_sound w.sheet.now).rising w.place s.late.place (omega arith) s.late.inside))
 
   -- the same by what was found
   pub found_here :
       (w₀ : Deadlines) → Skipped w₀ w → tick ≤ w.last → (late : Option LateRequest) → is_some late ≡ true → LateAt rows w.place tick late →
       NextHere w₀ late passed
-  found_here w₀ skipped near (Some e) some late = found_on w₀ w passed e skipped (found_place e near late)
-  found_here w₀ skipped near None some late = absurd (let z : ◌≡◌ {A = ℕ} 0 1 = cc in omega arith)
+  found_here w₀ skipped due_now (Some e) some late = found_on w₀ w passed e skipped (found_place e due_now late)
+  found_here w₀ skipped due_now None some late = absurd (let z : ◌≡◌ {A = ℕ} 0 1 = cc in omega arith)
 
   pub skip_here : (late : Option LateRequest) → is_some late ≡ false → LateAt rows w.place tick late → Skipped w passed
   skip_here (Some e) none late = absurd (let z : ◌≡◌ {A = ℕ} 0 1 = cc in omega arith)
   skip_here None none late = skip_place late
 
--- an advance by one tick
-pub one_tick :
-    (p q : Processor) (until : ℕ) (span : Option Span) → until ≡ p.tick + 1 → p.tick < last_tick → Advanced p until span q →
-    (q.tick ≡ p.tick + 1) × ((D : Demands) → Stands D p → Stands D q)
-one_tick p q until (Some span) next near ran = let r = ran in (omega arith, ran.stands)
-one_tick p q until None next near (end, same) = absurd (omega arith)
-
--- a tick further
-module _ (w : Deadlines) (reached : Reached w) (near : w.processor.tick ≤ w.last) (all : length w.rows.now ≤ w.place)
-    (q : Processor) (one : q.tick ≡ w.processor.tick + 1) (stands : (D : Demands) → Stands D w.processor → Stands D q) where
-  abbrev next : Deadlines
-  next = record { rows = w.rows; processor = q; place = 0; last = w.last }
-
-  pub skip_tick : Skipped w next
-  skip_tick =
-      let few = few_rows w.rows.now reached.sound in
-      let place = reached.place in
-      record {
-        reached = record {
-          sound = reached.sound;
-          stands = stands _ reached.stands;
-          place = omega arith;
-          last = reached.last;
-          near = reached.near;
-        };
-        falls = omega arith;
-        still = λ e s. record { late = s.late; later = ahead e s s.later (cases_lt q.tick e.deadline) };
-        back = λ e s. record {
-          late = s.late;
-          later = elim s.later [ inl later ↦ inl (omega arith) | inr now' ↦ inl (omega (arith, now'.0)) ];
-        };
-      }
-    where
-      ahead :
-          (e : LateRequest) (s : Still w e) →
-          (w.processor.tick < e.deadline) ⊎ ((e.deadline ≡ w.processor.tick) × (w.place ≤ s.late.place)) →
-          (q.tick < e.deadline) ⊎ (e.deadline ≤ q.tick) → (q.tick < e.deadline) ⊎ ((e.deadline ≡ q.tick) × (0 ≤ s.late.place))
-      ahead e s _ (inl later) = inl later
-      ahead e s (inl later) (inr le) = inr (omega arith, omega arith)
-      ahead e s (inr (at, le)) (inr _) = absurd (let inside = s.late.inside in omega arith)
-
-abbrev pub Ahead : Deadlines → List LateRequest → Type 0
-Ahead w = InOrder (Still w)
-
-pub gave_late : (w w' : Deadlines) (e : LateRequest) → Found w e w' → Gave Reached Ahead places_left w e w'
+pub gave_late : (w w' : Deadlines) (e : LateRequest) → Found w e w' → Gave LateAhead w e w'
 gave_late w w' e found =
     record {
-      stands = found.reached;
-      falls = found.falls;
       ahead = one_more_first (Still w) (Still w') e found.here found.others found.after;
       only = only_first (Still w) (Still w') e found.here found.others found.after;
     }
@@ -189,19 +134,19 @@ module _ (w w' : Deadlines) (skipped : Skipped w w') (beyond : w'.last < w'.proc
   none_still e s =
       let s' = skipped.still e s in
       let told = s'.late.told in
-      let last = skipped.reached.last in
+      let last = w'.told in
       elim s'.later [ inl later ↦ omega arith | inr now' ↦ omega (arith, now'.0) ]
 
-  pub ends : Gives Reached Ahead places_left w None w'
+  pub ends : Gives LateAhead w None w'
   ends = (none_in_order (Still w) none_still, none_only (Still w) none_still)
 
 -- from tick 0 and the first place on all late requests lie ahead
 pub all_ahead :
-    (w : Deadlines) (rows : List SheetRow) → w.rows.now ≡ rows → w.processor.tick ≡ 0 → w.place ≡ 0 → (entries : List LateRequest) →
-    Ahead w entries → InOrder (IsLate rows) entries
-all_ahead w rows same start first entries =
-    same_order (Still w) (IsLate rows) entries (λ e s. subst (λ all. IsLate all e) same s.late) (λ e late.
+    (w : Deadlines) (sheet : Sheet) → w.sheet.now ≡ sheet → w.processor.tick ≡ 0 → w.place ≡ 0 → (entries : List LateRequest) →
+    LateAhead w entries → InOrder (IsLate (rows_of sheet)) entries
+all_ahead w sheet same start first entries =
+    same_order (Still w) (IsLate (rows_of sheet)) entries (λ e s. subst (λ (all : Sheet). IsLate (rows_of all) e) same s.late) (λ e late.
     record {
-      late = subst (λ all. IsLate all e) (sym same) late;
+      late = subst (λ (all : Sheet). IsLate (rows_of all) e) (sym same) late;
       later = elim (cases_lt 0 e.deadline) [ inl later ↦ inl (omega arith) | inr none ↦ inr (omega arith, omega arith) ];
     })

@@ -1,12 +1,11 @@
 -- A list that a walk fills.
-use Rattle.std.proofs.Common.{◌≡◌, ℕ, ◌+◌, ◌≤◌, List, [], ◌∷◌, ◌++◌, length, Result, sym, refl, ap, ◌∙◌, subst, append_assoc, arith, length-append}
-use Rattle.std.proofs.lemmas.List.{append-nil, length_push}
+use Rattle.std.proofs.Common.{◌≡◌, ◌<◌, List, [], ◌∷◌, ◌++◌, length, None, Some, Option, Result, sym, refl, ap, ◌∙◌, subst, arith, length-append}
+use Rattle.std.proofs.lemmas.List.{append-nil}
+use Rattle.std.specs.Iterator.{Yields, Drains}
 use Rattle.refusals.specs.declared.Refusal.{Refusal}
-use Rattle.entries.specs.Lists.{Filled, held, slots_of}
 use Rattle.entries.specs.declared.list.List.{List as EntryList}
-use Rattle.entries.proofs.Filling.{filled_more, filled_full}
 use Rattle.charts.specs.Listing.{Lists}
-use Rattle.charts.specs.Walks.{Gave}
+use Rattle.charts.specs.Walks.{Gives}
 
 -- entries that are told of in other words
 pub told_as :
@@ -14,61 +13,38 @@ pub told_as :
     (before after : EntryList E) (r : Result (Unit {0}) Refusal) → Lists Told before r after → Lists Told' before r after
 told_as Told Told' same before after r (entries, told, listed) = (entries, same entries told, listed)
 
-module _ {W E : Type 0} (Stands : W → Type 0) (Ahead : W → List E → Type 0) (left : W → ℕ) where
-  -- so many entries were counted on the way from one walk to another
-  pub record Counted (start w : W) (count : ℕ) : Type 0 where
-    pub stands : Stands w
-    pub few : count + left w ≤ left start
-    pub passed : List E
-    pub long : length passed ≡ count
-    pub ahead : (entries : List E) → Ahead w entries → Ahead start (passed ++ entries)
+module _ {W E : Type 0} (Ahead : W → List E → Type 0) (next : W → Option E → W → Type 0) (gives : (w : W) (r : Option E) (w' : W) → next w r w' → Gives Ahead w r w') where
+  -- what a walk gave lay ahead of it, before what lies ahead of it now
+  gave_ahead : (w w' : W) (given : List E) → Yields next w given w' → (rest : List E) → Ahead w' rest → Ahead w (given ++ rest)
+  gave_ahead w w' [] yields rest ahead = subst (λ v. Ahead v rest) (sym yields) ahead
+  gave_ahead w w' (e ∷ given) (v, step, yields) rest ahead = (gives w (Some e) v step).ahead _ (gave_ahead v w' given yields rest ahead)
 
-  pub none_counted : (start : W) → Stands start → Counted start start 0
-  none_counted start stands =
-      record { stands = stands; few = omega arith; passed = []; long = refl; ahead = λ entries all. all }
+  pub drained_ahead : (w : W) (given : List E) → Drains next w given → Ahead w given
+  drained_ahead w given drained =
+      let last = drained.1 in
+      subst (Ahead w) (append-nil given) (gave_ahead w last.0 given last.1 [] (gives last.0 None drained.0 last.2).0)
 
-  pub one_counted : (start w w' : W) (count : ℕ) (e : E) → Counted start w count → Gave Stands Ahead left w e w' → Counted start w' (count + 1)
-  one_counted start w w' count e so_far gave =
-      record {
-        stands = gave.stands;
-        few = omega (arith, so_far.few, gave.falls);
-        passed = so_far.passed ++ e ∷ [];
-        long = omega (arith, length_push so_far.passed e, so_far.long);
-        ahead = λ entries all. rw append_assoc (so_far.ahead (e ∷ entries) (gave.ahead entries all));
-      }
+  -- what lies ahead begins with what a walk gave
+  pub only_ahead :
+      (w w' : W) (given : List E) → Yields next w given w' → (entries : List E) → Ahead w entries →
+      (rest : List E) × (entries ≡ given ++ rest) × Ahead w' rest
+  only_ahead w w' [] yields entries ahead = (entries, refl, subst (λ v. Ahead v entries) yields ahead)
+  only_ahead w w' (e ∷ given) (v, step, yields) entries ahead =
+      let first = (gives w (Some e) v step).only entries ahead in
+      let others = only_ahead v w' given yields first.0 first.2 in
+      (others.0, first.1 ∙ ap (λ rest. e ∷ rest) others.1, others.2)
 
-  -- at its end a walk has counted what lay ahead
-  pub all_counted : (start w : W) (count : ℕ) (counted : Counted start w count) → Ahead w [] → Ahead start counted.passed
-  all_counted start w count counted none = subst (Ahead start) (append-nil counted.passed) (counted.ahead [] none)
+  -- one entry more is one of those that were counted
+  module _ (w v w' : W) (given entries : List E) (yields : Yields next w given v) (ahead : Ahead w entries) where
+    pub more_ahead : (e : E) → next v (Some e) w' → length given < length entries
+    more_ahead e step =
+        let so_far = only_ahead w v given yields entries ahead in
+        let one = (gives v (Some e) w' step).only so_far.0 so_far.2 in
+        omega (arith, ap length so_far.1, length-append given so_far.0, ap length one.1)
 
-  -- the list holds what the walk has passed, and has room for what lies ahead
-  pub record Filling (start w : W) (slots : List E) (l : EntryList E) : Type 0 where
-    pub stands : Stands w
-    pub passed : List E
-    pub rest : List E
-    pub filled : Filled slots passed l
-    pub all : Ahead start (passed ++ rest)
-    pub ahead : Ahead w rest
-    pub room : length (passed ++ rest) ≤ length slots
-
-  module _ (start w w' : W) (slots : List E) (e : E) (l : EntryList E) (so_far : Filling start w slots l) (gave : Gave Stands Ahead left w e w') where
-    pub not_full : length (held l) ≡ length (slots_of l) → ⊥
-    not_full full =
-        let next = gave.only so_far.rest so_far.ahead in
-        let same = ap length next.1 in
-        omega (arith, filled_full slots so_far.passed l so_far.filled full, so_far.room, length-append so_far.passed so_far.rest)
-
-    pub one_filled : (l' : EntryList E) → Filled (slots_of l) (held l ++ e ∷ []) l' → Filling start w' slots l'
-    one_filled l' added =
-        let next = gave.only so_far.rest so_far.ahead in
-        let moved : so_far.passed ++ so_far.rest ≡ (so_far.passed ++ e ∷ []) ++ next.0 =
-        ap (λ rest. so_far.passed ++ rest) next.1 ∙ sym (append_assoc so_far.passed (e ∷ []) next.0) in
-        record {
-          stands = gave.stands;
-          passed = so_far.passed ++ e ∷ [];
-          rest = next.0;
-          filled = filled_more slots so_far.passed e l l' so_far.filled added;
-          all = subst (Ahead start) moved so_far.all;
-          ahead = next.2;
-          room = omega (arith, so_far.room, ap length moved);
-        }
+    -- at its end a walk has given all
+    pub all_ahead : next v None w' → given ≡ entries
+    all_ahead step =
+        let so_far = only_ahead w v given yields entries ahead in
+        let none = (gives v None w' step).1 so_far.0 so_far.2 in
+        sym (so_far.1 ∙ ap (λ rest. given ++ rest) none ∙ append-nil given)

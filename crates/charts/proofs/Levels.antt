@@ -1,9 +1,9 @@
 -- The rows of a sheet by their levels: there is exactly one row on each.
-use Rattle.std.proofs.Common.{◌≡◌, ℕ, zero, suc, ◌+◌, ◌<◌, ◌≤◌, true, cond, eqb, ◌⊎◌, List, [], ◌∷◌, length, get_or, drop, is_some, Some, None, Option, sym, refl, ap, ◌∙◌, subst, inl, inr, arith}
+use Rattle.std.proofs.Common.{◌≡◌, ℕ, zero, suc, ◌<◌, ◌≤◌, true, cond, eqb, ◌⊎◌, List, [], ◌∷◌, length, get_or, is_some, Some, None, Option, sym, refl, ap, ◌∙◌, subst, inl, inr, arith}
 use lib.ListN.{length-map}
 use Rattle.std.specs.List.{AllByRecursion as All}
 use Rattle.std.proofs.ByRecursion.{All-get_or}
-use Rattle.std.proofs.lemmas.List.{at_drop_more, get_or-map}
+use Rattle.std.proofs.lemmas.List.{get_or-map}
 use Rattle.std.proofs.lemmas.Bool.{cases_eq, cond-true, cond-false, eq-eqb, ne_eqb, lt-ltb}
 use Rattle.tasks.specs.declared.rows.Timed.{Timed}
 use Rattle.timeline.specs.Processor.{sum_below}
@@ -17,14 +17,6 @@ use Rattle.sheets.specs.Checks.{Sound, timed_in, levels_in}
 use Rattle.sheets.specs.declared.row.SheetRow.{SheetRow}
 use Rattle.charts.specs.Plans.{tasks_of, start_of, level_of, id_of, demands_of, row_on}
 use Rattle.charts.proofs.Shift.{sum_first}
-
--- the search for the row on a level
-module _ (level : ℕ) (rows : List SheetRow) (i : ℕ) (d : SheetRow) (inside : i < length rows) where
-  pub row_here : (get_or rows i d).level ≡ level → row_on level (drop i rows) ≡ Some (get_or rows i d)
-  row_here same = at_drop_more (row_on level) rows i d inside ∙ cond-true _ _ _ (eq-eqb _ _ same)
-
-  pub row_later : ((get_or rows i d).level ≡ level → ⊥) → row_on level (drop i rows) ≡ row_on level (drop (i + 1) rows)
-  row_later other = at_drop_more (row_on level) rows i d inside ∙ cond-false _ _ _ (ne_eqb _ _ other)
 
 abbrev timed : SheetRow → Timed
 timed row = record { figures = row.figures; start = row.start }

@@ -1,7 +1,6 @@
 -- How far the horizon of a sheet is.
-use Rattle.std.proofs.Common.{◌≡◌, ℕ, ◌+◌, ◌<◌, ◌≤◌, max, List, [], ◌∷◌, length, get_or, drop, arith}
-use Rattle.std.proofs.lemmas.List.{at_drop_more}
-use Rattle.std.specs.List.{AllByRecursion as All}
+use Rattle.std.proofs.Common.{◌≡◌, ℕ, ◌<◌, ◌≤◌, max, List, [], ◌∷◌, arith}
+use Rattle.std.specs.List.{fold, AllByRecursion as All}
 use Rattle.periods.specs.Multiples.{longest_period}
 use Rattle.tasks.specs.Figures.{Fair}
 use Rattle.sheets.specs.Checks.{Sound}
@@ -19,11 +18,8 @@ latest_short (row ∷ rows) fair timely =
 pub latest_near : (rows : List SheetRow) → Sound rows → latest_start rows ≤ longest_period
 latest_near rows sound = latest_short rows (fair_rows rows sound) (timely_rows rows sound)
 
--- one row more
-pub latest_more :
-    (rows : List SheetRow) (i : ℕ) (d : SheetRow) → i < length rows → (latest latest' : ℕ) →
-    max (latest_start (drop i rows)) latest ≡ latest_start rows → latest' ≡ max (get_or rows i d).start latest →
-    max (latest_start (drop (i + 1) rows)) latest' ≡ latest_start rows
-latest_more rows i d inside latest latest' so_far is =
-    let more : latest_start (drop i rows) ≡ max (get_or rows i d).start (latest_start (drop (i + 1) rows)) = at_drop_more latest_start rows i d inside in
-    omega arith
+-- the latest start, gathered row by row
+pub latest_gathered :
+    (rows : List SheetRow) (latest : ℕ) → fold (λ latest row. max row.start latest) latest rows ≡ max latest (latest_start rows)
+latest_gathered [] latest = omega arith
+latest_gathered (row ∷ rows) latest = let ih = latest_gathered rows (max row.start latest) in omega arith

@@ -1,6 +1,7 @@
 -- What a task owes at a deadline, and the request that is due there.
 use Rattle.std.proofs.Common.{◌≡◌, ℕ, zero, suc, ◌+◌, ◌-◌, ◌*◌, ◌/◌, ◌%◌, ◌<◌, ◌≤◌, ◌⊎◌, List, [], ◌∷◌, length, get_or, Some, None, sym, ap, ◌∙◌, subst, inl, inr, div-add-mod', zero-mul, arith}
 use native.Mathlib.Nat.{mul-mod_left}
+use Rattle.std.proofs.ByRecursion.{All-get_or}
 use Rattle.tasks.specs.Figures.{Fair}
 use Rattle.tasks.specs.Rows.{Rising}
 use Rattle.timeline.specs.Processor.{owing}
@@ -10,9 +11,9 @@ use Rattle.timeline.proofs.Backlog.{sum_below_same}
 use Rattle.timeline.proofs.Lateness.{come_by_due, done-owing}
 use Rattle.timeline.proofs.Levels.{own_is}
 use Rattle.runner.specs.declared.processor.Processor.{Processor}
-use Rattle.runner.specs.Running.{Stands}
 use Rattle.sheets.specs.Checks.{Sound, tasks_in}
 use Rattle.sheets.specs.declared.row.SheetRow.{SheetRow}
+use Rattle.sheets.proofs.Held.{fair_rows}
 use Rattle.charts.specs.Dues.{DueAt, LateAt}
 use Rattle.charts.specs.Plans.{tasks_of, start_of, level_of, id_of, demands_of, from_zero}
 use Rattle.charts.proofs.Levels.{At, at_place, tasks_length, level_range, alone, top_free}
@@ -33,8 +34,16 @@ ids_rise least (row ∷ rows) rising zero (suc j) before inside =
     let later = ids_least (row.id + 1) rows rising.1 j (omega arith) in omega arith
 ids_rise least (row ∷ rows) rising (suc i) (suc j) before inside = ids_rise (row.id + 1) rows rising.1 i j (omega arith) (omega arith)
 
-pub level_some : (rows : List SheetRow) → Sound rows → (place : ℕ) (d : SheetRow) → place < length rows → 1 ≤ (get_or rows place d).level
-level_some rows sound place d inside = omega (arith, level_range rows sound place inside, (at_place rows place d inside).level)
+pub level_some : (rows : List SheetRow) → Sound rows → (place : ℕ) (row : SheetRow) → At rows place row → 1 ≤ row.level
+level_some rows sound place row at = omega (arith, level_range rows sound place at.inside, at.level)
+
+-- the row at a place, read from a list that is the rows
+pub row_at :
+    (shown rows : List SheetRow) → shown ≡ rows → Sound rows → (place : ℕ) (d : SheetRow) → place < length rows →
+    At rows place (get_or shown place d) × Fair (get_or shown place d).figures
+row_at shown rows same sound place d inside =
+    subst (λ (all : List SheetRow). At rows place (get_or all place d) × Fair (get_or all place d).figures) (sym same)
+    (at_place rows place d inside, All-get_or (λ row. Fair row.figures) rows place d inside (fair_rows rows sound))
 
 -- the request that is due at a tick: the deadlines are t apart from the first one on, d after their requests
 module _ (row : SheetRow) (tick first t d : ℕ) (is-first : first ≡ row.start + d) (is-t : t ≡ row.figures.period) (is-d : d ≡ row.figures.deadline) where
@@ -82,9 +91,9 @@ module _ (rows : List SheetRow) (sound : Sound rows) (place : ℕ) (row : SheetR
       (λ tick l. own_is (tasks_of rows) (start_of rows) (level_of rows) place inside (alone rows sound place at.inside) tick)
       ∙ come_by_due task.work task.period (start_of rows place) task.deadline k (omega arith) (omega arith)
 
-  -- a processor that stands there, with what is left of the place's level
-  module _ (p : Processor) (stands : Stands (from_zero (demands_of rows)) p) (tick : ℕ) (is-tick : tick ≡ p.tick)
-      (level left : ℕ) (is_level : level ≡ row.level) (is-left : left ≡ get_or p.left (level - 1) 0) where
+  -- a processor that stands there, with what the place's level owes
+  module _ (p : Processor) (tick : ℕ) (is-tick : tick ≡ p.tick)
+      (level left : ℕ) (is_level : level ≡ row.level) (is-left : owing (from_zero (demands_of rows)) p.tick (level - 1) ≡ left) where
     owing_left : owing (demands_of rows) p.tick (level_of rows place) ≡ left
     owing_left =
         let range = level_range rows sound place at.inside in
@@ -92,7 +101,7 @@ module _ (rows : List SheetRow) (sound : Sound rows) (place : ℕ) (row : SheetR
         let below : level_of rows place ≡ suc (level - 1) = omega arith in
         ap (owing (demands_of rows) p.tick) below
         ∙ owing_shift (demands_of rows) (top_free rows sound) p.tick (level - 1)
-        ∙ stands.owes (level - 1) ∙ sym is-left
+        ∙ is-left
 
     pub not_owed : left ≡ 0 → LateAt rows place p.tick None
     not_owed none zero late = let l = late.1 in let z = zero-mul (task_at (tasks_of rows) place).work in omega arith

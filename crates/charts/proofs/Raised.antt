@@ -9,7 +9,11 @@ use Rattle.tasks.specs.declared.task.Task.{Task}
 use Rattle.tasks.specs.Figures.{Fair, first_fault}
 use Rattle.timeline.specs.Processor.{Demands, owing}
 use Rattle.timeline.specs.Requests.{requested}
+use Rattle.std.specs.Result.{result_err}
+use Rattle.runner.specs.declared.not_taken.NotTaken.{NotTaken}
 use Rattle.runner.specs.declared.processor.Processor.{Processor}
+use Rattle.runner.specs.Adding.{not_taken}
+use Rattle.runner.specs.Processor.{count_of}
 use Rattle.runner.specs.Running.{Stands, Added, with_level, nothing}
 use Rattle.runner.specs.Levels.{last_tick}
 use Rattle.sheets.specs.Checks.{Sound}
@@ -42,10 +46,10 @@ up_to n D level tick = cond (ltb level n) (D level tick) 0
 -- the rows on the first n levels have been taken
 pub record Raised (rows : List SheetRow) (n : ℕ) (p : Processor) : Type 0 where
   pub start : p.tick ≡ 0
-  pub count : p.count ≡ n
+  pub count : count_of p ≡ n
   pub stands : Stands (up_to n (from_zero (demands_of rows))) p
 
-pub none_raised : (rows : List SheetRow) (p : Processor) → p.tick ≡ 0 → p.count ≡ 0 → Stands nothing p → Raised rows 0 p
+pub none_raised : (rows : List SheetRow) (p : Processor) → p.tick ≡ 0 → count_of p ≡ 0 → Stands nothing p → Raised rows 0 p
 none_raised rows p start none stands =
     record {
       start = start;
@@ -66,7 +70,7 @@ module _ (rows : List SheetRow) (sound : Sound rows) (n : ℕ) (p : Processor) (
     where
       same :
           (level tick : ℕ) →
-          with_level (up_to n (from_zero (demands_of rows))) p.count (requested row.figures.work row.figures.period row.start) level tick
+          with_level (up_to n (from_zero (demands_of rows))) (count_of p) (requested row.figures.work row.figures.period row.start) level tick
           ≡ up_to (n + 1) (from_zero (demands_of rows)) level tick
       same level tick =
           let own = demand_on rows sound (suc n) row is tick in
@@ -75,30 +79,38 @@ module _ (rows : List SheetRow) (sound : Sound rows) (n : ℕ) (p : Processor) (
         where
           go :
               (level ≡ n) ⊎ (level ≡ n → ⊥) →
-              demands_of rows (suc n) tick ≡ requested row.figures.work row.figures.period row.start tick → p.count ≡ n →
-              with_level (up_to n (from_zero (demands_of rows))) p.count (requested row.figures.work row.figures.period row.start) level tick
+              demands_of rows (suc n) tick ≡ requested row.figures.work row.figures.period row.start tick → count_of p ≡ n →
+              with_level (up_to n (from_zero (demands_of rows))) (count_of p) (requested row.figures.work row.figures.period row.start) level tick
               ≡ up_to (n + 1) (from_zero (demands_of rows)) level tick
           go (inl e) own counted =
-              cond-true _ _ _ (eq-eqb level p.count (omega arith)) ∙ sym own ∙ ap (λ l. demands_of rows (suc l) tick) (sym e)
+              cond-true _ _ _ (eq-eqb level (count_of p) (omega arith)) ∙ sym own ∙ ap (λ l. demands_of rows (suc l) tick) (sym e)
               ∙ sym (cond-true _ _ _ (lt-ltb level (n + 1) (omega arith)))
           go (inr ne) own counted =
-              cond-false _ _ _ (ne_eqb level p.count (λ e. ne (omega arith))) ∙ grind (arith, nat_tests)
+              cond-false _ _ _ (ne_eqb level (count_of p) (λ e. ne (omega arith))) ∙ grind (arith, nat_tests)
 
   -- there is room for one row more
-  pub raised_more :
-      (row : SheetRow) → row_on (suc n) rows ≡ Some row → n < length rows → (figures : Figures) (start : ℕ) →
-      figures ≡ row.figures → start ≡ row.start → (taken : Bool) (q : Processor) →
-      taken ≡ (eqb p.tick 0 && (ltb p.count most_tasks && leb start last_tick)) →
-      MatchBool taken (Added p figures start q) (q ≡ p) → Raised rows (n + 1) q
-  raised_more row is inside figures start same-figures same_start taken q said added =
+  pub not_refused :
+      (row : SheetRow) → row_on (suc n) rows ≡ Some row → n < length rows → (start : ℕ) → start ≡ row.start → not_taken p start ≡ None
+  not_refused row is inside start same_start =
       let few = few_rows rows sound in
       let fair = all_on (λ r. Fair r.figures) (suc n) rows row (fair_rows rows sound) is in
       let timely = all_on (λ r. r.start < r.figures.period) (suc n) rows row (timely_rows rows sound) is in
       let at = so_far.start in
       let count = so_far.count in
-      let yes : taken ≡ true = said ∙ grind (arith, nat_tests) in
+      grind (arith, nat_tests)
+
+  pub raised_more :
+      (row : SheetRow) → row_on (suc n) rows ≡ Some row → n < length rows → (figures : Figures) (start : ℕ) →
+      figures ≡ row.figures → start ≡ row.start → (r : Result (Unit {0}) NotTaken) (q : Processor) → result_err r ≡ not_taken p start →
+      MatchResult r (λ _. Added p figures start q) (λ _. q ≡ p) → Raised rows (n + 1) q
+  raised_more row is inside figures start same-figures same_start r q said added =
       raised_one row is q
-      (subst (λ f. Added p f row.start q) same-figures (subst (λ s. Added p figures s q) same_start (when_true _ _ yes added)))
+      (subst (λ f. Added p f row.start q) same-figures
+      (subst (λ s. Added p figures s q) same_start (go r (said ∙ not_refused row is inside start same_start) added)))
+    where
+      go : (r : Result (Unit {0}) NotTaken) → result_err r ≡ None → MatchResult r (λ _. Added p figures start q) (λ _. q ≡ p) → Added p figures start q
+      go (Ok _) none added = added
+      go (Err _) none added = absurd (let z : ◌≡◌ {A = ℕ} 0 1 = cc in omega arith)
 
   -- the task of a row is formed
   pub formed :

@@ -1,42 +1,31 @@
 -- A walk along a window, and the bars that it gives.
-use Rattle.std.proofs.Common.{◌≡◌, ℕ, ◌+◌, ◌-◌, ◌<◌, ◌≤◌, min, ◌⊎◌, List, [], ◌∷◌, sym, refl, ap, ◌∙◌, subst, inl, inr, arith}
+use Rattle.std.proofs.Common.{◌≡◌, ℕ, ◌+◌, ◌<◌, ◌≤◌, min, ◌⊎◌, List, [], ◌∷◌, sym, refl, ap, ◌∙◌, subst, inl, inr, arith}
 use Rattle.std.proofs.lemmas.Bool.{cases_lt}
 use Rattle.runner.specs.declared.span.Span.{Span}
 use Rattle.runner.specs.Levels.{last_tick}
-use Rattle.runner.specs.Running.{Stands, Ran}
+use Rattle.runner.specs.Running.{Ran}
 use Rattle.entries.specs.declared.Bar.{Bar}
-use Rattle.sheets.specs.Checks.{Sound}
+use Rattle.sheets.specs.Sheets.{rows_of}
+use Rattle.sheets.specs.declared.sheet.Sheet.{Sheet}
+use Rattle.sheets.proofs.Soundness.{sheet_sound}
 use Rattle.charts.specs.declared.bars.Bars.{Bars}
 use Rattle.charts.specs.Charts.{shown, IsBar, IsChart, OneChart}
-use Rattle.charts.specs.Plans.{demands_of, from_zero}
 use Rattle.charts.specs.Walks.{Gave}
-use Rattle.charts.specs.Windows.{id_for, Within, Went}
+use Rattle.charts.specs.Windows.{ChartAhead, id_for, Went}
 use Rattle.charts.proofs.Shown.{shown_by}
 
 -- the processor ran on by a span
 pub went :
-    (w w' : Bars) (span : Span) → Within w → Ran w.processor (min w.to last_tick) span w'.processor →
-    w'.rows.now ≡ w.rows.now → w'.to ≡ w.to → (id : ℕ) → id ≡ id_for w.rows.now span.runs → Went w id span.length w'
-went w w' span within ran same_rows same-to id is =
+    (w w' : Bars) (span : Span) → Ran w.processor (min w.to last_tick) span w'.processor →
+    w'.sheet.now ≡ w.sheet.now → w'.to ≡ w.to → (id : ℕ) → id ≡ id_for (rows_of w.sheet.now) span.runs → Went w id span.length w'
+went w w' span ran same_sheet same-to id is =
     let r = ran in
-    let before = within.before in
-    let near = within.near in
     record {
-      rows = same_rows;
+      sheet = same_sheet;
       to = same-to;
-      within = record {
-        sound = subst Sound (sym same_rows) within.sound;
-        stands = subst (λ rows. Stands (from_zero (demands_of rows)) w'.processor) (sym same_rows) (ran.stands _ within.stands);
-        before = omega arith;
-        near = omega arith;
-      };
       tick = omega arith;
-      same = λ tick after l. shown_by w.rows.now within.sound span.runs tick (ran.runs _ within.stands tick (omega arith) l) ∙ sym is;
+      same = λ tick after l. shown_by (rows_of w.sheet.now) (sheet_sound w.sheet.now) span.runs tick (ran.runs _ w.stands tick (omega arith) l) ∙ sym is;
     }
-
-pub went_none : (w : Bars) (id : ℕ) → Within w → Went w id 0 w
-went_none w id within =
-    record { rows = refl; to = refl; within = within; tick = omega arith; same = λ tick after l. absurd (omega arith) }
 
 -- two runs of one id, one after the other
 pub went_on : (w w' w'' : Bars) (id n m : ℕ) → Went w id n w' → Went w' id m w'' → Went w id (n + m) w''
@@ -44,13 +33,12 @@ went_on w w' w'' id n m first then =
     let t₁ = first.tick in
     let t₂ = then.tick in
     record {
-      rows = then.rows ∙ first.rows;
+      sheet = then.sheet ∙ first.sheet;
       to = then.to ∙ first.to;
-      within = then.within;
       tick = omega arith;
       same = λ tick after l. elim (cases_lt tick w'.processor.tick) [
         | inl before ↦ first.same tick after before
-        | inr late ↦ ap (λ rows. shown rows tick) (sym first.rows) ∙ then.same tick late l
+        | inr late ↦ ap (λ (sheet : Sheet). shown (rows_of sheet) tick) (sym first.sheet) ∙ then.same tick late l
       ];
     }
 
@@ -83,62 +71,48 @@ one_chart shows from to (bar ∷ bars) (bar' ∷ bars') chart other =
     (one_chart shows (from + bar.length) to bars bars' chart.1 (subst (λ b. IsChart shows (from + b.length) to bars') (sym this) other.1))
     ∙ ap (λ b. b ∷ bars') this
 
-abbrev pub Chart : Bars → List Bar → Type 0
-Chart w = IsChart (shown w.rows.now) w.processor.tick w.to
-
-abbrev pub left_of : Bars → ℕ
-left_of w = w.to - w.processor.tick
-
 -- a run that does not go on is a bar
 module _ (w w' : Bars) (bar : Bar) (first : bar.first ≡ w.processor.tick) (some : 0 < bar.length) (run : Went w bar.id bar.length w')
-    (ends : w'.processor.tick < w'.to → shown w'.rows.now w'.processor.tick ≡ bar.id → ⊥) where
-  is_bar : IsBar (shown w.rows.now) w.processor.tick w.to bar
+    (ends : w'.processor.tick < w'.to → shown (rows_of w'.sheet.now) w'.processor.tick ≡ bar.id → ⊥) where
+  is_bar : IsBar (shown (rows_of w.sheet.now)) w.processor.tick w.to bar
   is_bar =
       let t = run.tick in
       let e = run.to in
-      let b = run.within.before in
+      let b = w'.before in
       record {
         first = first;
         some = some;
         within = omega arith;
         same = λ tick after l. run.same tick after (omega arith);
-        longest = λ l shows. ends (omega arith) (ap (λ rows. shown rows w'.processor.tick) run.rows ∙ ap (shown w.rows.now) t ∙ shows);
+        longest = λ l shows.
+            ends (omega arith) (ap (λ (sheet : Sheet). shown (rows_of sheet) w'.processor.tick) run.sheet ∙ ap (shown (rows_of w.sheet.now)) t ∙ shows);
       }
 
   -- what lies ahead after the bar
-  after : (bars : List Bar) → Chart w' bars ≡ IsChart (shown w.rows.now) (w.processor.tick + bar.length) w.to bars
+  after : (bars : List Bar) → ChartAhead w' bars ≡ IsChart (shown (rows_of w.sheet.now)) (w.processor.tick + bar.length) w.to bars
   after bars =
-      ap (λ rows. IsChart (shown rows) w'.processor.tick w'.to bars) run.rows
-      ∙ ap (λ tick. IsChart (shown w.rows.now) tick w'.to bars) run.tick
-      ∙ ap (λ to. IsChart (shown w.rows.now) (w.processor.tick + bar.length) to bars) run.to
+      ap (λ (sheet : Sheet). IsChart (shown (rows_of sheet)) w'.processor.tick w'.to bars) run.sheet
+      ∙ ap (λ tick. IsChart (shown (rows_of w.sheet.now)) tick w'.to bars) run.tick
+      ∙ ap (λ to. IsChart (shown (rows_of w.sheet.now)) (w.processor.tick + bar.length) to bars) run.to
 
-  only_bar : (bars : List Bar) → Chart w bars → (rest : List Bar) × (bars ≡ bar ∷ rest) × Chart w' rest
+  only_bar : (bars : List Bar) → ChartAhead w bars → (rest : List Bar) × (bars ≡ bar ∷ rest) × ChartAhead w' rest
   only_bar [] end =
       let t = run.tick in
       let e = run.to in
-      let b = run.within.before in
+      let b = w'.before in
       absurd (omega arith)
   only_bar (other ∷ rest) chart =
       let this : other ≡ bar = one_bar _ _ _ other bar chart.0 is_bar in (
         rest,
         ap (λ b. b ∷ rest) this,
         subst (λ X. X) (sym (after rest))
-            (subst (λ b. IsChart (shown w.rows.now) (w.processor.tick + b.length) w.to rest) this chart.1),
+            (subst (λ b. IsChart (shown (rows_of w.sheet.now)) (w.processor.tick + b.length) w.to rest) this chart.1),
       )
 
-  pub gave_bar : Gave Within Chart left_of w bar w'
-  gave_bar =
-      let t = run.tick in
-      let e = run.to in
-      let b = run.within.before in
-      record {
-        stands = run.within;
-        falls = omega arith;
-        ahead = λ bars chart. (is_bar, subst (λ X. X) (after bars) chart);
-        only = only_bar;
-      }
+  pub gave_bar : Gave ChartAhead w bar w'
+  gave_bar = record { ahead = λ bars chart. (is_bar, subst (λ X. X) (after bars) chart); only = only_bar }
 
 -- at the end of the window nothing lies ahead
-pub none_ahead : (w : Bars) → w.processor.tick ≡ w.to → (bars : List Bar) → Chart w bars → bars ≡ []
+pub none_ahead : (w : Bars) → w.processor.tick ≡ w.to → (bars : List Bar) → ChartAhead w bars → bars ≡ []
 none_ahead w end [] chart = refl
 none_ahead w end (bar ∷ bars) chart = let is = chart.0 in absurd (omega arith)

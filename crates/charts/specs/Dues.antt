@@ -3,13 +3,11 @@ use Rattle.std.specs.Prelude.{◌≡◌, ℕ, ◌+◌, ◌-◌, ◌*◌, ◌<◌
 use Rattle.periods.specs.Multiples.{most_tasks}
 use Rattle.timeline.specs.Requests.{request_tick}
 use Rattle.timeline.specs.Timeline.{deadline_of, Late}
-use Rattle.runner.specs.Levels.{last_tick}
-use Rattle.runner.specs.Running.{Stands}
 use Rattle.entries.specs.declared.LateRequest.{LateRequest}
-use Rattle.sheets.specs.Checks.{Sound}
+use Rattle.sheets.specs.Sheets.{rows_of}
 use Rattle.sheets.specs.declared.row.SheetRow.{SheetRow}
-use Rattle.charts.specs.LateRequests.{request_at, IsLate, Before}
-use Rattle.charts.specs.Plans.{tasks_of, start_of, level_of, demands_of, from_zero, horizon}
+use Rattle.charts.specs.LateRequests.{request_at, IsLate, Before, InOrder}
+use Rattle.charts.specs.Plans.{tasks_of, start_of, level_of}
 use Rattle.charts.specs.declared.deadlines.Deadlines.{Deadlines}
 
 -- the tick of the request of a row that is due at a tick
@@ -28,18 +26,14 @@ abbrev pub LateAt : List SheetRow → ℕ → ℕ → Option LateRequest → Typ
 LateAt rows place tick (Some e) = (k : ℕ) × LateNow rows place tick k × (e ≡ request_at rows place k)
 LateAt rows place tick None = (k : ℕ) → LateNow rows place tick k → ⊥
 
--- the walk stands at a tick of the timeline, and at a place
-pub record Reached (w : Deadlines) : Type 0 where
-  pub sound : Sound w.rows.now
-  pub stands : Stands (from_zero (demands_of w.rows.now)) w.processor
-  pub place : w.place ≤ length w.rows.now
-  pub last : w.last ≡ horizon w.rows.now
-  pub near : w.last < last_tick
-
 -- a late request that the walk has not passed
 pub record Still (w : Deadlines) (e : LateRequest) : Type 0 where
-  pub late : IsLate w.rows.now e
+  pub late : IsLate (rows_of w.sheet.now) e
   pub later : (w.processor.tick < e.deadline) ⊎ ((e.deadline ≡ w.processor.tick) × (w.place ≤ late.place))
+
+-- these requests, in order
+abbrev pub LateAhead : Deadlines → List LateRequest → Type 0
+LateAhead w = InOrder (Still w)
 
 -- how many places lie ahead at most
 abbrev pub places_left : Deadlines → ℕ
@@ -47,14 +41,12 @@ places_left w = (w.last + 1 - w.processor.tick) * most_tasks - w.place
 
 -- the walk has passed no late request
 pub record Skipped (w w' : Deadlines) : Type 0 where
-  pub reached : Reached w'
   pub falls : places_left w' ≤ places_left w
   pub still : (e : LateRequest) → Still w e → Still w' e
   pub back : (e : LateRequest) → Still w' e → Still w e
 
 -- the walk has passed one late request
 pub record Found (w : Deadlines) (e : LateRequest) (w' : Deadlines) : Type 0 where
-  pub reached : Reached w'
   pub falls : places_left w' < places_left w
   pub here : Still w e
   pub others : (other : LateRequest) → Still w other → (other ≡ e) ⊎ Still w' other
@@ -63,4 +55,5 @@ pub record Found (w : Deadlines) (e : LateRequest) (w' : Deadlines) : Type 0 whe
 -- the next late request of this tick, or none at the places left
 abbrev pub NextHere : Deadlines → Option LateRequest → Deadlines → Type 0
 NextHere w (Some e) w' = Found w e w'
-NextHere w None w' = Skipped w w' × (w'.processor.tick ≡ w.processor.tick) × (w'.last ≡ w.last) × (length w'.rows.now ≤ w'.place)
+NextHere w None w' =
+    Skipped w w' × (w'.processor.tick ≡ w.processor.tick) × (w'.last ≡ w.last) × (length (rows_of w'.sheet.now) ≤ w'.place)

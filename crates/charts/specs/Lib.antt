@@ -1,5 +1,6 @@
 pub mod Charts
 pub mod Dues
+pub mod Few
 pub mod Inspections
 pub mod LateRequests
 pub mod Listing

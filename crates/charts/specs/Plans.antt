@@ -1,5 +1,6 @@
 -- The tasks of a sheet on the endless timeline. Places are counted from 0.
-use Rattle.std.specs.Prelude.{ℕ, suc, ◌+◌, ◌*◌, max, cond, List, [], ◌∷◌, map, Some, None, Option, ◌==◌, slice_index}
+use Rattle.std.specs.Prelude.{ℕ, suc, ◌+◌, ◌*◌, max, List, [], ◌∷◌, map, Option, ◌==◌, slice_index}
+use Rattle.std.specs.List.{find}
 use Rattle.periods.specs.Multiples.{common_period}
 use Rattle.tasks.specs.declared.figures.Figures.{Figures}
 use Rattle.tasks.specs.Loads.{periods_in}
@@ -35,8 +36,7 @@ horizon rows = latest_start rows + 2 * common_period (periods_in (tasks_of rows)
 
 -- the row on a level
 abbrev pub row_on : ℕ → List SheetRow → Option SheetRow
-row_on level [] = None
-row_on level (row ∷ rows) = cond (row.level == level) (Some row) (row_on level rows)
+row_on level rows = find (λ row. row.level == level) rows
 
 -- the same demands by the levels of a processor, which counts them from 0 and not from 1
 abbrev pub from_zero : Demands → Demands

@@ -1,11 +1,9 @@
 -- A walk gives the entries that lie ahead one after the other.
-use Rattle.std.specs.Prelude.{◌≡◌, ℕ, ◌<◌, List, [], ◌∷◌, Some, None, Option}
+use Rattle.std.specs.Prelude.{◌≡◌, List, [], ◌∷◌, Some, None, Option}
 
-module _ {W E : Type 0} (Stands : W → Type 0) (Ahead : W → List E → Type 0) (left : W → ℕ) where
+module _ {W E : Type 0} (Ahead : W → List E → Type 0) where
   -- e lies ahead of w, and then what lies ahead of w'
   pub record Gave (w : W) (e : E) (w' : W) : Type 0 where
-    pub stands : Stands w'
-    pub falls : left w' < left w
     pub ahead : (entries : List E) → Ahead w' entries → Ahead w (e ∷ entries)
     pub only : (entries : List E) → Ahead w entries → (rest : List E) × (entries ≡ e ∷ rest) × Ahead w' rest
 

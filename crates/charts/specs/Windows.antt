@@ -1,12 +1,11 @@
 -- A walk along a window of the timeline.
 use Rattle.std.specs.Prelude.{◌≡◌, ℕ, ◌+◌, ◌<◌, ◌≤◌, List, Some, None, Option, ◌≢◌}
 use Rattle.periods.specs.Multiples.{most_tasks}
-use Rattle.runner.specs.Levels.{last_tick}
-use Rattle.runner.specs.Running.{Stands}
-use Rattle.sheets.specs.Checks.{Sound}
+use Rattle.entries.specs.declared.Bar.{Bar}
+use Rattle.sheets.specs.Sheets.{rows_of}
 use Rattle.sheets.specs.declared.row.SheetRow.{SheetRow}
-use Rattle.charts.specs.Charts.{shown}
-use Rattle.charts.specs.Plans.{demands_of, from_zero, row_on}
+use Rattle.charts.specs.Charts.{shown, IsChart}
+use Rattle.charts.specs.Plans.{row_on}
 use Rattle.charts.specs.declared.bars.Bars.{Bars}
 use Rattle.charts.specs.declared.bars.Run.{Run}
 
@@ -24,28 +23,24 @@ abbrev pub LevelKnown : Option ℕ → Type 0
 LevelKnown (Some level) = level < most_tasks
 LevelKnown None = Unit {0}
 
--- the processor stands at a tick of the window, which it can reach the end of
-pub record Within (w : Bars) : Type 0 where
-  pub sound : Sound w.rows.now
-  pub stands : Stands (from_zero (demands_of w.rows.now)) w.processor
-  pub before : w.processor.tick ≤ w.to
-  pub near : w.to ≤ last_tick
+-- the chart of what is left of the window
+abbrev pub ChartAhead : Bars → List Bar → Type 0
+ChartAhead w = IsChart (shown (rows_of w.sheet.now)) w.processor.tick w.to
 
 -- the walk went on by n ticks, each of which shows the id
 pub record Went (w : Bars) (id n : ℕ) (w' : Bars) : Type 0 where
-  pub rows : w'.rows.now ≡ w.rows.now
+  pub sheet : w'.sheet.now ≡ w.sheet.now
   pub to : w'.to ≡ w.to
-  pub within : Within w'
   pub tick : w'.processor.tick ≡ w.processor.tick + n
-  pub same : (tick : ℕ) → w.processor.tick ≤ tick → tick < w'.processor.tick → shown w.rows.now tick ≡ id
+  pub same : (tick : ℕ) → w.processor.tick ≤ tick → tick < w'.processor.tick → shown (rows_of w.sheet.now) tick ≡ id
 
 -- the next ticks of one id; none at the end of the window
 abbrev pub NextRun : Bars → Option Run → Bars → Type 0
 NextRun w (Some run) w' = (0 < run.length) × Went w run.id run.length w'
-NextRun w None w' = (w.processor.tick ≡ w.to) × (w' ≡ w)
+NextRun w None w' = w.processor.tick ≡ w.to
 
 -- the next ticks, if they show this id; else the walk stays
 abbrev pub MoreOf : Bars → ℕ → Option ℕ → Bars → Type 0
 MoreOf w id (Some n) w' = (0 < n) × Went w id n w'
 MoreOf w id None w' =
-    (w' ≡ w) × (w.processor.tick < w.to → shown w.rows.now w.processor.tick ≢ id)
+    (w' ≡ w) × (w.processor.tick < w.to → shown (rows_of w.sheet.now) w.processor.tick ≢ id)

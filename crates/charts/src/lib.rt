@@ -1,8 +1,6 @@
 // The chart of a sheet and its late requests, told in a caller's list.
 #![tactic(auto)]
 
-ghost use Rattle.std.specs.Prelude.{◌≡◌};
-ghost use Rattle.entries.specs.Lists.{slice_of};
 ghost use Rattle.sheets.specs.Bytes.{entries_in};
 ghost use Rattle.sheets.specs.Sheets.{rows_of};
 ghost use Rattle.charts.specs.Charts.{Charted, OneChart, shown};
@@ -26,24 +24,23 @@ use entries::{Bar, LateRequest, List};
 pub use inspection::InspectRefusal;
 use refusals::Refusal;
 use sheets::Sheet;
+use std::ops::Range;
 
-// Lists who runs in the ticks from one up to another, without it: a bar for each longest run of one id, or of idle.
-pub fn chart(sheet: &Sheet, from: u32, to: u32, list: &mut List<Bar>) -> Result<(), Refusal>
-    ensures charted { Charted (rows_of sheet.now) from to list.old result list.new }
-    ensures one { OneChart (shown (rows_of sheet.now)) from to }
-    ensures slice { slice_of list.new ≡ slice_of list.old }
+// Lists who runs in the ticks of a window: a bar for each longest run of one id, or of idle.
+pub fn chart(sheet: &Sheet, window: Range<u32>, list: &mut List<Bar>) -> Result<(), Refusal>
+    ensures charted { Charted (rows_of sheet.now) window.start window.end list.old result list.new }
+    ensures one { OneChart (shown (rows_of sheet.now)) window.start window.end }
 {
-    if from > to || to > horizon(sheet) {
+    if window.start > window.end || window.end > horizon(sheet) {
         return Err(Refusal::WrongWindow);
     }
-    fill(Bars::over(sheet.rows(), from, to), list)
+    fill(Bars::over(sheet, window), list)
 }
 
 // Lists the late requests with a deadline up to and including the horizon, by deadline and then by id.
 pub fn late_requests(sheet: &Sheet, list: &mut List<LateRequest>) -> Result<(), Refusal>
     ensures listed { Lists (InOrder (IsLate (rows_of sheet.now))) list.old result list.new }
     ensures one { OneOrder (IsLate (rows_of sheet.now)) }
-    ensures slice { slice_of list.new ≡ slice_of list.old }
 {
     fill(Deadlines::of(sheet), list)
 }
@@ -52,7 +49,6 @@ pub fn late_requests(sheet: &Sheet, list: &mut List<LateRequest>) -> Result<(), 
 pub fn inspect(bytes: &[u8], list: &mut List<LateRequest>) -> Result<(), InspectRefusal>
     ensures inspected { Inspected bytes.now list.old result list.new }
     ensures one { OneOrder (IsLate (entries_in bytes.now)) }
-    ensures slice { slice_of list.new ≡ slice_of list.old }
 {
     let sheet = Sheet::read(bytes)?;
     late_requests(&sheet, list)?;

@@ -2,7 +2,6 @@
 ghost use Rattle.std.specs.Prelude.{◌≡◌, ◌+◌, ◌*◌, ◌<◌, ◌≤◌};
 ghost use Rattle.periods.specs.Multiples.{most_tasks, longest_period, longest_common_period};
 ghost use Rattle.runner.specs.Running.{Stands};
-ghost use Rattle.sheets.specs.Checks.{Sound};
 ghost use Rattle.sheets.specs.Sheets.{rows_of};
 ghost use Rattle.charts.specs.Plans.{demands_of, from_zero, latest_start, horizon as horizon_of, row_on};
 
@@ -21,11 +20,7 @@ pub fn horizon(sheet: &Sheet) -> u32
 fn latest_start(rows: &[SheetRow]) -> u16
     ensures { result ≡ latest_start rows.now }
 {
-    let mut latest = 0;
-    for row in rows {
-        latest = row.start.max(latest);
-    }
-    latest
+    rows.iter().fold(0, |latest, row| row.start.max(latest))
 }
 
 // The row on a level of the processor, which counts them from 0.
@@ -33,25 +28,23 @@ pub fn row_on(rows: &[SheetRow], level: usize) -> Option<SheetRow>
     requires { level < most_tasks }
     ensures { result ≡ row_on (level + 1) rows.now }
 {
-    for row in rows {
-        if usize::from(row.level) == level + 1 {
-            return Some(*row);
-        }
-    }
-    None
+    rows.iter()
+        .find(|row| usize::from(row.level) == level + 1)
+        .copied()
 }
 
 // A processor at tick 0 with the tasks of a sheet on their levels.
-pub fn processor_of(rows: &[SheetRow]) -> Processor
-    requires { Sound rows.now }
+pub fn processor_of(sheet: &Sheet) -> Processor
     ensures tick { result.tick ≡ 0 }
-    ensures stands { Stands (from_zero (demands_of rows.now)) result }
+    ensures stands { Stands (from_zero (demands_of (rows_of sheet.now))) result }
 {
+    let rows = sheet.rows();
     let mut processor = Processor::new();
+    // An index here: the processor's level is the number itself.
     for level in 0..rows.len() {
         let row = row_on(rows, level).unwrap();
         let task = Task::form(row.figures).unwrap();
-        processor.add(task, u32::from(row.start));
+        processor.add(task, u32::from(row.start)).unwrap();
     }
     processor
 }

@@ -3,17 +3,14 @@ use crate::{InspectRefusal, chart, inspect, late_requests};
 use entries::{Bar, LateRequest, List};
 use refusals::Refusal;
 use sheets::{Sheet, SheetFault, SheetRow};
+use std::ops::Range;
 use std::test::Fail;
 use tasks::Figures;
 
 fn row(id: u8, work: u16, period: u16, start: u16) -> SheetRow {
     SheetRow {
         id,
-        figures: Figures {
-            work,
-            period,
-            deadline: period,
-        },
+        figures: Figures::new(work, period, period),
         start,
         level: id,
     }
@@ -21,10 +18,9 @@ fn row(id: u8, work: u16, period: u16, start: u16) -> SheetRow {
 
 // The third task starts at a tick, the others at 0.
 fn sheet(start: u16) -> Result<Sheet, Fail> {
-    match Sheet::form(&[row(1, 3, 8, 0), row(2, 6, 12, 0), row(3, 1, 12, start)]) {
-        Ok(sheet) => Ok(sheet),
-        Err(_) => Err(Fail::new("no sheet")),
-    }
+    Sheet::form(&[row(1, 3, 8, 0), row(2, 6, 12, 0), row(3, 1, 12, start)]).map_err(|_| Fail::new(
+        "no sheet",
+    ))
 }
 
 fn bar(first: u32, length: u32, id: u8) -> Bar {
@@ -33,25 +29,21 @@ fn bar(first: u32, length: u32, id: u8) -> Bar {
 
 fn charted(
     start: u16,
-    from: u32,
-    to: u32,
+    window: Range<u32>,
     slots: &mut [Bar],
 ) -> Result<Result<usize, Refusal>, Fail> {
     let mut list = List::new(slots);
-    Ok(match chart(&sheet(start)?, from, to, &mut list) {
-        Ok(()) => Ok(list.len()),
-        Err(refusal) => Err(refusal),
-    })
+    Ok(chart(&sheet(start)?, window, &mut list).map(|()| list.len()))
 }
 
 #[test]
 fn a_chart_covers_its_window(rt: HostRuntime) -> Result<(), Fail> {
     let blank = bar(9, 9, 9);
     let mut short = [blank; 7];
-    assert_eq!(rt; charted(10, 0, 24, &mut short)?, Err(Refusal::ListTooShort));
+    assert_eq!(rt; charted(10, 0..24, &mut short)?, Err(Refusal::ListTooShort));
     assert_eq!(rt; short, [blank; 7]);
     let mut exact = [blank; 8];
-    assert_eq!(rt; charted(10, 0, 24, &mut exact)?, Ok(8));
+    assert_eq!(rt; charted(10, 0..24, &mut exact)?, Ok(8));
     let whole = [
         bar(0, 3, 1),
         bar(3, 5, 2),
@@ -64,17 +56,17 @@ fn a_chart_covers_its_window(rt: HostRuntime) -> Result<(), Fail> {
     ];
     assert_eq!(rt; exact, whole);
     let mut long = [blank; 3];
-    assert_eq!(rt; charted(10, 4, 9, &mut long)?, Ok(2));
+    assert_eq!(rt; charted(10, 4..9, &mut long)?, Ok(2));
     assert_eq!(rt; long, [bar(4, 4, 2), bar(8, 1, 1), blank]);
     Ok(())
 }
 
 #[test]
 fn a_window_ends_by_the_horizon(rt: HostRuntime) -> Result<(), Fail> {
-    assert_eq!(rt; charted(10, 58, 58, &mut [])?, Ok(0));
-    assert_eq!(rt; charted(10, 57, 58, &mut [])?, Err(Refusal::ListTooShort));
-    assert_eq!(rt; charted(10, 59, 59, &mut [])?, Err(Refusal::WrongWindow));
-    assert_eq!(rt; charted(10, 6, 5, &mut [])?, Err(Refusal::WrongWindow));
+    assert_eq!(rt; charted(10, 58..58, &mut [])?, Ok(0));
+    assert_eq!(rt; charted(10, 57..58, &mut [])?, Err(Refusal::ListTooShort));
+    assert_eq!(rt; charted(10, 59..59, &mut [])?, Err(Refusal::WrongWindow));
+    assert_eq!(rt; charted(10, 6..5, &mut [])?, Err(Refusal::WrongWindow));
     Ok(())
 }
 

@@ -22,15 +22,13 @@ pub trait Ticked {
 pub fn first_at_or_after<E: Ticked>(entries: &[E], tick: u32) -> Option<usize>
     ensures { FirstAtOrAfter (map E.Ticked.when entries.now) tick result }
 {
-    for (i, entry) in entries.iter().enumerate() {
-        if entry.tick() >= tick {
-            return Some(i + 1);
-        }
-    }
-    None
+    entries
+        .iter()
+        .position(|entry| entry.tick() >= tick)
+        .map(|i| i + 1)
 }
 
-// A longest run of one id in a chart; id 0 is idle.
+// A longest run of one id in a chart. Id 0 is idle: the shop's charts fix that number, and no task has it.
 #[derive(Clone, Copy, PartialEq, Eq, Debug)]
 pub struct Bar {
     pub first: u32,

@@ -1,4 +1,5 @@
 // A list over a slice that the caller lends: it fills the slice from the front.
+// A slice with a length, since the customer fixed that answers fill the caller's slice, and nothing is allocated.
 ghost use Rattle.std.specs.Prelude.{◌≤◌, length};
 
 mod calls;

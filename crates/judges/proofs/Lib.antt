@@ -1,4 +1,3 @@
 pub mod MarginRuns
-pub mod Rounding
 pub mod Rows
 pub mod WorstStartRuns

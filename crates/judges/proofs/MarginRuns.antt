@@ -1,34 +1,29 @@
 -- The margin's way to the stretched case.
-use Rattle.std.proofs.Common.{◌≡◌, ℕ, ◌+◌, ◌*◌, ◌<◌, ◌≤◌, Bool, true, false, cond, List, map, length, get_or, Some, None, Ok, Err, Option, Result, sym, refl, ap, ◌∙◌, subst, mul-le-mul_right, mul-le-mul_left, arith}
+use Rattle.std.proofs.Common.{◌≡◌, ℕ, ◌+◌, ◌<◌, ◌≤◌, Bool, true, false, cond, List, [], ◌∷◌, ◌++◌, map, length, get_or, Some, None, Ok, Err, Option, Result, sym, refl, ap, ap₂, ◌∙◌, subst, arith}
 use lib.ListN.{length-map}
 use Rattle.std.specs.List.{range_with_len}
 use Rattle.std.specs.Result.{result_ok}
-use Rattle.std.proofs.lemmas.List.FromFn.{length-map-range_with_len, get_or-map-range_with_len}
+use Rattle.std.proofs.lemmas.List.FromFn.{length-map-range_with_len, get_or-map-range_with_len, map-range_with_len_more}
 use Rattle.std.proofs.ByRecursion.{All-get_or, All-from_get_or}
 use Rattle.std.proofs.lemmas.List.{get_or-map, same_lists}
 use Rattle.std.proofs.lemmas.Bool.{cond_both}
 use Rattle.refusals.specs.declared.Refusal.{Refusal}
-use Rattle.periods.specs.Multiples.{longest_period, longest_common_period, common_period}
+use Rattle.periods.specs.Multiples.{longest_common_period, common_period}
 use Rattle.tasks.specs.declared.case.Case.{Case}
 use Rattle.tasks.specs.declared.figures.Figures.{Figures}
+use Rattle.tasks.specs.declared.judged.Judged.{Judged}
 use Rattle.tasks.specs.declared.rows.Timed.{Timed}
 use Rattle.tasks.specs.Cases.{timed_of, Formed}
 use Rattle.tasks.specs.Figures.{Fair}
 use Rattle.tasks.specs.Loads.{periods_in}
+use Rattle.tasks.specs.Places.{has}
 use Rattle.tasks.specs.Timed.{Sound, figures_given, case_refusal}
 use Rattle.timeline.specs.Laws.{AllFair}
 use Rattle.timeline.specs.Timeline.{task_at}
-use Rattle.judges.specs.Margin.{largest_margin, concerns, stretched_task, stretched, StretchFits, StretchedCase, WithMargin, ReckonsWithMargin}
-use Rattle.judges.specs.Meaning.{Meaning, Reckoning, Rules, Tells}
+use Rattle.judges.specs.Margin.{concerns, stretched_task, stretched, StretchFits, StretchedCase, WithMargin, ReckonsWithMargin}
+use Rattle.judges.specs.Meaning.{Meaning, Reckoning, Rules, Tells, MeaningAt, ReckonedAt, tasks_of, starts_of}
 use Rattle.judges.specs.MarginLaws.{length-stretched, stretched_concerned, stretched_fair, periods_stretched}
 use Rattle.judges.proofs.Rows.{blank, task_of_row, tasks_fair}
-
--- the product before it is divided
-pub product_most : (percent work : ℕ) → percent ≤ largest_margin → work ≤ longest_period → work * (100 + percent) ≤ 400000
-product_most percent work small short =
-    let a = mul-le-mul_right (100 + percent) short in
-    let b = mul-le-mul_left longest_period (let l : 100 + percent ≤ 200 = omega arith in l) in
-    omega arith
 
 -- a row with its work stretched
 abbrev pub stretched_row : ℕ → Timed → Timed
@@ -46,6 +41,13 @@ module _ (percent : ℕ) (rows : List Timed) (judged : ℕ) (above : ℕ → Boo
 
   row_changed : (q : ℕ) → q < length rows → get_or changed_rows q blank ≡ changed_row q
   row_changed q inside = get_or-map-range_with_len changed_row 0 (length rows) q q blank inside (omega arith)
+
+  -- one row more
+  pub changed_more :
+      (place : ℕ) (before after : List Timed) (row : Timed) → before ≡ map changed_row (range_with_len 0 place) → row ≡ changed_row place →
+      after ≡ before ++ row ∷ [] → after ≡ map changed_row (range_with_len 0 (place + 1))
+  changed_more place before after row front is pushed =
+      pushed ∙ ap₂ (λ rows row. rows ++ row ∷ []) front is ∙ sym (map-range_with_len_more changed_row 0 place place (omega arith))
 
   figures_changed : figures_given changed_rows ≡ stretched percent (figures_given rows) judged above
   figures_changed =
@@ -103,53 +105,54 @@ module _ (percent : ℕ) (rows : List Timed) (judged : ℕ) (above : ℕ → Boo
 
 -- forming a case of the changed rows is refused exactly if they do not fit
 pub case_formed :
-    (percent : ℕ) (case : Case) (judged : ℕ) (above : ℕ → Bool) (rows given : List Timed) (r : Result Case Refusal) → rows ≡ timed_of case →
-    Sound rows → given ≡ changed_rows percent rows judged above → Formed given r →
-    (case_refusal given ≡ None → Sound given) × (Sound given → case_refusal given ≡ None) → StretchedCase percent case judged above (result_ok r)
-case_formed percent case judged above rows given (Ok changed) same sound as-given is both = (
-  subst (λ rows. StretchFits percent (figures_given rows) judged above) same
-      (fits_if_sound percent rows judged above (subst Sound as-given (both.0 is.0))),
-  ap figures_given (is.1 ∙ as-given)
-      ∙ figures_changed percent rows judged above
-      ∙ ap (λ rows. stretched percent (figures_given rows) judged above) same,
-  ap starts_in (is.1 ∙ as-given) ∙ ap (λ starts q. get_or starts q 0) (starts_changed percent rows judged above) ∙ ap starts_in same,
-)
+    (percent : ℕ) (judged : Judged) (rows given : List Timed) (r : Result Case Refusal) → rows ≡ timed_of judged.case.now →
+    Sound rows → given ≡ changed_rows percent rows judged.place (has judged.above.now) → Formed given r →
+    (case_refusal given ≡ None → Sound given) × (Sound given → case_refusal given ≡ None) → StretchedCase percent judged (result_ok r)
+case_formed percent judged rows given (Ok changed) same sound as-given is both =
+    let place = judged.place in
+    let above = has judged.above.now in (
+      subst (λ rows. StretchFits percent (figures_given rows) place above) same
+          (fits_if_sound percent rows place above (subst Sound as-given (both.0 is.0))),
+      ap figures_given (is.1 ∙ as-given)
+          ∙ figures_changed percent rows place above
+          ∙ ap (λ rows. stretched percent (figures_given rows) place above) same,
+      ap starts_in (is.1 ∙ as-given) ∙ ap (λ starts q. get_or starts q 0) (starts_changed percent rows place above) ∙ ap starts_in same,
+    )
   where
     starts_in : List Timed → ℕ → ℕ
     starts_in rows q = get_or (map (λ row. row.start) rows) q 0
-case_formed percent case judged above rows given (Err refusal) same sound as-given is both =
+case_formed percent judged rows given (Err refusal) same sound as-given is both =
     λ fits.
-    let fits' = subst (λ rows. StretchFits percent (figures_given rows) judged above) (sym same) fits in
-    let none = both.1 (subst Sound (sym as-given) (sound_if_fits percent rows judged above sound fits')) in
+    let place = judged.place in
+    let above = has judged.above.now in
+    let fits' = subst (λ rows. StretchFits percent (figures_given rows) place above) (sym same) fits in
+    let none = both.1 (subst Sound (sym as-given) (sound_if_fits percent rows place above sound fits')) in
     let z : ◌≡◌ {A = ℕ} 0 1 = cc in
     omega arith
 
--- what the judge below says of the stretched tasks, it says of these with the margin
+-- the same task judged in the stretched case: what the judge below says of it, it says with the margin
 module _
-    (percent : ℕ) (M : Meaning) (tasks changed : List Figures) (starts same_starts : ℕ → ℕ) (judged : ℕ) (above : ℕ → Bool)
-    (fits : StretchFits percent tasks judged above) (is : changed ≡ stretched percent tasks judged above) (same : same_starts ≡ starts) where
-  means : M changed same_starts judged above → WithMargin percent M tasks starts judged above
-  means holds =
-      let At : List Figures → Type 0 = λ all. M all same_starts judged above in
-      let From : (ℕ → ℕ) → Type 0 = λ all. M (stretched percent tasks judged above) all judged above in
-      (fits, subst From same (subst At is holds))
+    (percent : ℕ) (M : Meaning) (judged below : Judged) (stretches : StretchedCase percent judged (Some below.case.now))
+    (place : below.place ≡ judged.place) (above : below.above.now ≡ judged.above.now) where
+  -- what holds of the one holds of the other
+  same_task :
+      (K : Meaning) →
+      MeaningAt K below
+      ≡ K (stretched percent (tasks_of judged.case.now) judged.place (has judged.above.now)) (starts_of judged.case.now) judged.place (has judged.above.now)
+  same_task K = λ i. K (stretches.1 i) (stretches.2 i) (place i) (has (above i))
 
-  meant : WithMargin percent M tasks starts judged above → M changed same_starts judged above
-  meant holds =
-      let At : List Figures → Type 0 = λ all. M all same_starts judged above in
-      let From : (ℕ → ℕ) → Type 0 = λ all. M (stretched percent tasks judged above) all judged above in
-      subst At (sym is) (subst From (sym same) holds.1)
+  means : (K : Meaning) → MeaningAt K below → MeaningAt (WithMargin percent K) judged
+  means K holds = (stretches.0, subst (λ T. T) (same_task K) holds)
 
-  pub ruled_with_margin :
-      (ruled : Bool) → Rules ruled (M changed same_starts judged above) → Rules ruled (WithMargin percent M tasks starts judged above)
-  ruled_with_margin true holds = means holds
+  meant : MeaningAt (WithMargin percent M) judged → MeaningAt M below
+  meant holds = subst (λ T. T) (sym (same_task M)) holds.1
+
+  pub ruled_with_margin : (ruled : Bool) → Rules ruled (MeaningAt M below) → Rules ruled (MeaningAt (WithMargin percent M) judged)
+  ruled_with_margin true holds = means M holds
   ruled_with_margin false not = λ holds. not (meant holds)
 
   pub told_with_margin :
-      (N : Reckoning) (told : Option ℕ) → Tells told (M changed same_starts judged above) (N changed same_starts judged above) →
-      Tells told (WithMargin percent M tasks starts judged above) (ReckonsWithMargin percent N tasks starts judged above)
-  told_with_margin N (Some n) reckoned =
-      let At : List Figures → Type 0 = λ all. N all same_starts judged above n in
-      let From : (ℕ → ℕ) → Type 0 = λ all. N (stretched percent tasks judged above) all judged above n in
-      (fits, subst From same (subst At is reckoned))
+      (N : Reckoning) (told : Option ℕ) → Tells told (MeaningAt M below) (ReckonedAt N below) →
+      Tells told (MeaningAt (WithMargin percent M) judged) (ReckonedAt (ReckonsWithMargin percent N) judged)
+  told_with_margin N (Some n) reckoned = means (λ tasks starts place above. N tasks starts place above n) reckoned
   told_with_margin N None not = λ holds. not (meant holds)

@@ -3,6 +3,8 @@ use Rattle.std.specs.Prelude.{◌≡◌, ℕ, ◌+◌, ◌*◌, ◌/◌, ◌<◌
 use Rattle.std.specs.List.{range_with_len}
 use Rattle.tasks.specs.declared.case.Case.{Case}
 use Rattle.tasks.specs.declared.figures.Figures.{Figures}
+use Rattle.tasks.specs.declared.judged.Judged.{Judged}
+use Rattle.tasks.specs.Places.{has}
 use Rattle.timeline.specs.Laws.{AllFair}
 use Rattle.timeline.specs.Timeline.{task_at}
 use Rattle.judges.specs.Meaning.{Meaning, Reckoning, tasks_of, starts_of}
@@ -39,11 +41,12 @@ NoMargin =
     StretchFits 0 tasks judged above × (stretched 0 tasks judged above ≡ tasks)
 
 -- the case with the stretched tasks at the same starts, if they fit
-abbrev pub StretchedCase : ℕ → Case → ℕ → (ℕ → Bool) → Option Case → Type 0
-StretchedCase percent case judged above None = StretchFits percent (tasks_of case) judged above → ⊥
-StretchedCase percent case judged above (Some changed) =
-    StretchFits percent (tasks_of case) judged above × (tasks_of changed ≡ stretched percent (tasks_of case) judged above)
-    × (starts_of changed ≡ starts_of case)
+abbrev pub StretchedCase : ℕ → Judged → Option Case → Type 0
+StretchedCase percent judged None = StretchFits percent (tasks_of judged.case.now) judged.place (has judged.above.now) → ⊥
+StretchedCase percent judged (Some changed) =
+    StretchFits percent (tasks_of judged.case.now) judged.place (has judged.above.now)
+    × (tasks_of changed ≡ stretched percent (tasks_of judged.case.now) judged.place (has judged.above.now))
+    × (starts_of changed ≡ starts_of judged.case.now)
 
 -- the ruling below and its number, on the stretched tasks
 abbrev pub WithMargin : ℕ → Meaning → Meaning

@@ -2,14 +2,20 @@
 use Rattle.std.specs.Prelude.{◌≡◌, ℕ, ◌<◌, ◌≤◌, Bool, true, false, List, length, Some, None, Option}
 use Rattle.periods.specs.Listed.{Related}
 use Rattle.tasks.specs.declared.figures.Figures.{Figures}
+use Rattle.tasks.specs.declared.judged.Judged.{Judged}
 pub use Rattle.tasks.specs.Cases.{tasks_of, starts_of}
 use Rattle.tasks.specs.Loads.{periods_in}
+use Rattle.tasks.specs.Places.{has}
 use Rattle.timeline.specs.Laws.{AllFair}
 use Rattle.timeline.specs.Timeline.{task_at, InTimeBelow}
 
 -- A fixed yes or no for any tasks with any whole starts, a judged place and a set of places above it. Places count from 0.
 abbrev pub Meaning : Type 1
 Meaning = List Figures → (ℕ → ℕ) → ℕ → (ℕ → Bool) → Type 0
+
+-- the same at a judged task: its case has the tasks and the starts
+abbrev pub MeaningAt : Meaning → Judged → Type 0
+MeaningAt M judged = M (tasks_of judged.case.now) (starts_of judged.case.now) judged.place (has judged.above.now)
 
 -- the places that count as above: those that hold a task and are not the judged one
 pub record Above (tasks : List Figures) (judged : ℕ) (above : ℕ → Bool) (q : ℕ) : Type 0 where
@@ -55,6 +61,10 @@ Rules false holds = holds → ⊥
 -- The reckoned response of the judged task is this number, for any tasks with any whole starts.
 abbrev pub Reckoning : Type 1
 Reckoning = List Figures → (ℕ → ℕ) → ℕ → (ℕ → Bool) → ℕ → Type 0
+
+-- the same at a judged task
+abbrev pub ReckonedAt : Reckoning → Judged → ℕ → Type 0
+ReckonedAt N judged = N (tasks_of judged.case.now) (starts_of judged.case.now) judged.place (has judged.above.now)
 
 -- The laws of the number, beside the ruling.
 pub record Measured (M : Meaning) (N : Reckoning) : Type 0 where

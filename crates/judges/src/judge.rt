@@ -1,16 +1,15 @@
 // What every judge is.
-ghost use Rattle.judges.specs.Meaning.{Meaning, Lawful, Rules, Reckoning, Measured, Tells, tasks_of, starts_of};
-ghost use Rattle.tasks.specs.Places.{has};
+ghost use Rattle.judges.specs.Meaning.{Meaning, Lawful, Rules, Reckoning, Measured, Tells, MeaningAt, ReckonedAt};
 
-use tasks::{Case, Places};
+use tasks::Judged;
 
 pub trait Judge {
     // The ruling, for any tasks with any whole starts.
     ghost meaning: { Self → Meaning };
 
     // Rules on the judged place of a case, below the places above it.
-    fn rule(&self, case: &Case, judged: usize, above: &Places) -> bool
-        ensures { Rules result (meaning self.now (tasks_of case.now) (starts_of case.now) judged (has above.now)) };
+    fn rule(&self, judged: Judged) -> bool
+        ensures { Rules result (MeaningAt (meaning self.now) judged.entry) };
 
     ghost lawful: { (judge : Self) → Lawful (meaning judge) };
 }
@@ -21,8 +20,8 @@ pub trait MeasuringJudge: Judge {
     ghost reckons: { Self → Reckoning };
 
     // The reckoned response, which a no does not have.
-    fn response(&self, case: &Case, judged: usize, above: &Places) -> Option<u32>
-        ensures { Tells result (Self.Judge.meaning self.now (tasks_of case.now) (starts_of case.now) judged (has above.now)) (reckons self.now (tasks_of case.now) (starts_of case.now) judged (has above.now)) };
+    fn response(&self, judged: Judged) -> Option<u32>
+        ensures { Tells result (MeaningAt (Self.Judge.meaning self.now) judged.entry) (ReckonedAt (reckons self.now) judged.entry) };
 
     ghost measured: { (judge : Self) → Measured (Self.Judge.meaning judge) (reckons judge) };
 }

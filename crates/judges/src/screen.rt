@@ -6,7 +6,7 @@ ghost use Rattle.judges.specs.WorstStartLaws.{worst_start_lawful};
 
 use crate::judge::Judge;
 use crate::worst_start::WorstStart;
-use tasks::{Case, Places};
+use tasks::Judged;
 
 #[derive(Drop)]
 pub struct Screen<J> {
@@ -18,7 +18,7 @@ impl<J: Judge> Judge for Screen<J> {
 
     ghost lawful = { λ judge. either_lawful InTimeAtWorst _ worst_start_lawful (J.Judge.lawful judge.judge) };
 
-    fn rule(&self, case: &Case, judged: usize, above: &Places) -> bool {
-        WorstStart.rule(case, judged, above) || self.judge.rule(case, judged, above)
+    fn rule(&self, judged: Judged) -> bool {
+        WorstStart.rule(judged) || self.judge.rule(judged)
     }
 }

@@ -4,12 +4,10 @@ use std::test::Fail;
 use tasks::{Case, Figures, Places, Timed};
 
 fn task(work: u16, period: u16) -> Timed {
-    let figures = Figures {
-        work,
-        period,
-        deadline: period,
-    };
-    Timed { figures, start: 0 }
+    Timed {
+        figures: Figures::new(work, period, period),
+        start: 0,
+    }
 }
 
 fn places(each: &[usize]) -> Places {
@@ -23,10 +21,13 @@ fn places(each: &[usize]) -> Places {
 #[test]
 fn worst_start_counts_what_comes_from_above(rt: HostRuntime) -> Result<(), Fail> {
     let case = Case::form(&[task(3, 8), task(6, 12), task(1, 12)])?;
-    assert_eq!(rt; WorstStart.response(&case, 0, &places(&[])), Some(3));
-    assert_eq!(rt; WorstStart.response(&case, 1, &places(&[0])), Some(12));
-    assert_eq!(rt; WorstStart.response(&case, 2, &places(&[0, 1])), None);
-    assert_eq!(rt; WorstStart.response(&case, 3, &places(&[0])), None);
+    assert_eq!(rt; WorstStart.response(case.judged(0, &places(&[]))), Some(3));
+    assert_eq!(rt;
+        WorstStart.response(case.judged(1, &places(&[0]))),
+        Some(12)
+    );
+    assert_eq!(rt; WorstStart.response(case.judged(2, &places(&[0, 1]))), None);
+    assert_eq!(rt; WorstStart.response(case.judged(3, &places(&[0]))), None);
     Ok(())
 }
 
@@ -34,17 +35,17 @@ fn worst_start_counts_what_comes_from_above(rt: HostRuntime) -> Result<(), Fail>
 fn tick_counts_the_starts(rt: HostRuntime) -> Result<(), Fail> {
     let every = places(&[0, 1, 2, 7]);
     let common = Case::form(&[task(3, 8), task(6, 12), task(1, 12)])?;
-    assert!(rt; !Tick.rule(&common, 2, &every));
-    assert!(rt; !WorstStart.rule(&common, 2, &every));
+    assert!(rt; !Tick.rule(common.judged(2, &every)));
+    assert!(rt; !WorstStart.rule(common.judged(2, &every)));
     let mut late = task(1, 12);
     late.start = 10;
     let apart = Case::form(&[task(3, 8), task(6, 12), late])?;
-    assert!(rt; Tick.rule(&apart, 2, &every));
-    assert_eq!(rt; Tick.response(&apart, 2, &every), Some(12));
-    assert!(rt; !WorstStart.rule(&apart, 2, &every));
-    assert!(rt; !Tick.rule(&apart, 3, &every));
-    assert!(rt; Margin::new(0, Tick)?.rule(&apart, 2, &every));
-    assert!(rt; !Margin::new(100, Tick)?.rule(&apart, 2, &every));
+    assert!(rt; Tick.rule(apart.judged(2, &every)));
+    assert_eq!(rt; Tick.response(apart.judged(2, &every)), Some(12));
+    assert!(rt; !WorstStart.rule(apart.judged(2, &every)));
+    assert!(rt; !Tick.rule(apart.judged(3, &every)));
+    assert!(rt; Margin::new(0, Tick)?.rule(apart.judged(2, &every)));
+    assert!(rt; !Margin::new(100, Tick)?.rule(apart.judged(2, &every)));
     Ok(())
 }
 
@@ -53,12 +54,12 @@ fn margin_rounds_up_each_time(rt: HostRuntime) -> Result<(), Fail> {
     let alone = places(&[]);
     let case = Case::form(&[task(11, 14)])?;
     assert_eq!(rt;
-        Margin::new(21, WorstStart)?.response(&case, 0, &alone),
+        Margin::new(21, WorstStart)?.response(case.judged(0, &alone)),
         Some(14)
     );
     let twice = Margin::new(10, Margin::new(10, WorstStart)?)?;
-    assert_eq!(rt; twice.response(&case, 0, &alone), None);
-    assert!(rt; Screen { judge: twice }.rule(&case, 0, &alone));
+    assert_eq!(rt; twice.response(case.judged(0, &alone)), None);
+    assert!(rt; Screen { judge: twice }.rule(case.judged(0, &alone)));
     Ok(())
 }
 

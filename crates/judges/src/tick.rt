@@ -5,7 +5,7 @@ ghost use Rattle.judges.specs.TickLaws.{tick_lawful, tick_measured};
 use crate::judge::{Judge, MeasuringJudge};
 use crate::worst_start::WorstStart;
 use lateness::worst_response;
-use tasks::{Case, Places};
+use tasks::Judged;
 
 #[derive(Clone, Copy)]
 pub struct Tick;
@@ -16,8 +16,8 @@ impl Judge for Tick {
     ghost lawful = { λ judge. tick_lawful };
 
     // Where the worst-start judge says yes, no start can make a request late.
-    fn rule(&self, case: &Case, judged: usize, above: &Places) -> bool {
-        WorstStart.rule(case, judged, above) || self.response(case, judged, above).is_some()
+    fn rule(&self, judged: Judged) -> bool {
+        WorstStart.rule(judged) || self.response(judged).is_some()
     }
 }
 
@@ -26,7 +26,7 @@ impl MeasuringJudge for Tick {
 
     ghost measured = { λ judge. tick_measured };
 
-    fn response(&self, case: &Case, judged: usize, above: &Places) -> Option<u32> {
-        worst_response(case, judged, above)
+    fn response(&self, judged: Judged) -> Option<u32> {
+        worst_response(judged)
     }
 }

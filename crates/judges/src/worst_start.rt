@@ -3,12 +3,12 @@ ghost use Rattle.std.specs.Prelude.{◌≡◌, ◌<◌, ◌≤◌, length};
 ghost use Rattle.judges.specs.WorstStart.{work_below, SettlesInTime, InTimeAtWorst};
 ghost use Rattle.periods.specs.Multiples.{longest_period};
 ghost use Rattle.tasks.specs.Places.{has};
-ghost use Rattle.tasks.specs.Timed.{Sound, figures_given};
+ghost use Rattle.tasks.specs.Cases.{tasks_of};
 ghost use Rattle.timeline.specs.Laws.{rounds_in};
 ghost use Rattle.judges.specs.WorstStartLaws.{worst_start_lawful, worst_start_measured};
 
 use crate::judge::{Judge, MeasuringJudge};
-use tasks::{Case, Places, Timed};
+use tasks::{Judged, Timed};
 
 // Ignores the starts.
 #[derive(Clone, Copy)]
@@ -19,8 +19,8 @@ impl Judge for WorstStart {
 
     ghost lawful = { λ judge. worst_start_lawful };
 
-    fn rule(&self, case: &Case, judged: usize, above: &Places) -> bool {
-        self.response(case, judged, above).is_some()
+    fn rule(&self, judged: Judged) -> bool {
+        self.response(judged).is_some()
     }
 }
 
@@ -30,15 +30,12 @@ impl MeasuringJudge for WorstStart {
     ghost measured = { λ judge. worst_start_measured };
 
     // From the work of the judged task on, the ticks are raised to the work that they bring, until they bring no more.
-    fn response(&self, case: &Case, judged: usize, above: &Places) -> Option<u32> {
-        let rows = case.rows();
-        if judged >= rows.len() {
-            return None;
-        }
-        let deadline = u32::from(rows[judged].figures.deadline);
-        let mut ticks = u32::from(rows[judged].figures.work);
+    fn response(&self, judged: Judged) -> Option<u32> {
+        let figures = judged.case.rows().get(judged.place)?.figures;
+        let deadline = u32::from(figures.deadline);
+        let mut ticks = u32::from(figures.work);
         while ticks <= deadline {
-            let work = work_in(rows, judged, above, ticks);
+            let work = work_in(judged, ticks);
             if work == ticks {
                 return Some(ticks);
             }
@@ -49,15 +46,16 @@ impl MeasuringJudge for WorstStart {
 }
 
 // The work that so many ticks can bring of the judged task and those above it.
-fn work_in(rows: &[Timed], judged: usize, above: &Places, ticks: u32) -> u32
-    requires sound { Sound rows.now }
-    requires held { judged < length rows.now }
+fn work_in(judged: Judged, ticks: u32) -> u32
+    requires held { judged.place < length (tasks_of judged.case.now) }
     requires few { ticks ≤ longest_period }
-    ensures { result ≡ work_below (figures_given rows.now) judged (has above.now) ticks }
+    ensures { result ≡ work_below (tasks_of judged.entry.case.now) judged.entry.place (has judged.entry.above.now) ticks }
 {
-    let mut work = u32::from(rows[judged].figures.work);
+    let rows = judged.case.rows();
+    let mut work = u32::from(rows[judged.place].figures.work);
+    // A loop: in a chain of `filter`, `map` and `sum` it stayed open that each row that comes has a period to divide by.
     for (place, row) in rows.iter().enumerate() {
-        if place != judged && above.contains(place) {
+        if place != judged.place && judged.above.contains(place) {
             work += rounds(ticks, u32::from(row.figures.period)) * u32::from(row.figures.work);
         }
     }

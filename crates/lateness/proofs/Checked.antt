@@ -1,5 +1,5 @@
 -- Requests of a task that are checked one after the other.
-use Rattle.std.proofs.Common.{◌≡◌, ℕ, zero, suc, ◌+◌, ◌-◌, ◌*◌, ◌<◌, ◌≤◌, max, ◌⊎◌, List, length, get_or, sym, refl, ap, ◌∙◌, subst, inl, inr, mul-le-mul_right, suc-mul, zero-mul, arith}
+use Rattle.std.proofs.Common.{◌≡◌, ℕ, zero, suc, ◌+◌, ◌-◌, ◌*◌, ◌<◌, ◌≤◌, max, ◌⊎◌, List, length, sym, refl, ap, ◌∙◌, subst, inl, inr, mul-le-mul_right, suc-mul, zero-mul, arith}
 use Rattle.std.proofs.lemmas.Bool.{cases_lt}
 use Rattle.tasks.specs.declared.figures.Figures.{Figures}
 use Rattle.timeline.specs.Processor.{Demands, sum_below, owing}
@@ -12,6 +12,7 @@ use Rattle.timeline.proofs.Lateness.{come_by_due, done-owing}
 use Rattle.timeline.proofs.Laws.{undone_early}
 use Rattle.timeline.proofs.Loads.{own_through}
 use Rattle.timeline.proofs.Related.{has_finish}
+use Rattle.runner.specs.Processor.{left_on}
 use Rattle.runner.specs.declared.processor.Processor.{Processor}
 use Rattle.runner.specs.Running.{Stands}
 use Rattle.lateness.specs.Running.{Stopped, RanOn}
@@ -214,14 +215,14 @@ module _ (tasks : List Figures) (fair : AllFair tasks) (starts levels : ℕ → 
   at_due : p'.tick ≡ deadline_of tasks starts q (suc checking.k)
   at_due = there ∙ ap (λ r. r + (task_at tasks q).deadline) checking.at
 
-  owed : owing checking.D (deadline_of tasks starts q (suc checking.k)) level ≡ get_or p'.left level 0
+  owed : owing checking.D (deadline_of tasks starts q (suc checking.k)) level ≡ left_on p' level
   owed = ap (λ tick. owing checking.D tick level) (sym at_due) ∙ (ran.stands checking.D checking.stands).owes level
 
-  pub found_late : 0 < get_or p'.left level 0 → (k : ℕ) × Late tasks starts levels q k
+  pub found_late : 0 < left_on p' level → (k : ℕ) × Late tasks starts levels q k
   found_late some =
       (suc checking.k, late_here tasks fair starts levels q inside checking.D level checking.served checking.k (omega (arith, owed)))
 
-  module _ (none : get_or p'.left level 0 ≡ 0) where
+  module _ (none : left_on p' level ≡ 0) where
     stopped_at_due : Stopped checking.D level p.tick (deadline_of tasks starts q (suc checking.k)) stop
     stopped_at_due =
         subst (λ tick. Stopped checking.D level p.tick tick stop) at_due (ran.stopped checking.D checking.stands)

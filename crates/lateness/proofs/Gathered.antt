@@ -12,7 +12,7 @@ use Rattle.tasks.specs.declared.figures.Figures.{Figures}
 use Rattle.tasks.specs.declared.task.TimedTask.{TimedTask}
 use Rattle.tasks.specs.Loads.{periods_in}
 use Rattle.tasks.proofs.Loads.{work_fits}
-use Rattle.tasks.proofs.Placed.{length_tasks, fair_task}
+use Rattle.tasks.proofs.Placed.{few_tasks, fair_task}
 use Rattle.timeline.specs.Processor.{sum_below}
 use Rattle.timeline.specs.Timeline.{task_at}
 use Rattle.timeline.specs.Laws.{AllFair}
@@ -42,12 +42,12 @@ module _ (ts : List ℕ) (t n : ℕ) where
 
 module _ (m : Members) where
   pub fair_in : AllFair (tasks_in m)
-  fair_in q inside = fair_task m.case.now q inside _
+  fair_in q inside = fair_task m.judged.case.now q inside _
 
   pub few_in : length (tasks_in m) ≤ most_tasks
-  few_in = let case = m.case.now in omega (arith, length_tasks case)
+  few_in = few_tasks m.judged.case.now
 
-  pub judged_member : is_member m m.judged ≡ true
+  pub judged_member : is_member m m.judged.place ≡ true
   judged_member = grind (arith, nat_tests)
 
   -- what holds of each member before a place, and of this one, holds of each up to it
@@ -79,11 +79,11 @@ module _ (m : Members) where
         (omega arith, omega arith)
 
     pub load_rest :
-        i < length (tasks_in m) → MemberAt m i None →
+        (is_member m i ≡ true → ⊥) →
         (load ≡ sum_below (counted (is_member m) (share (tasks_in m) ticks)) (i + 1)) × (load ≤ (i + 1) * longest_common_period)
-    load_rest inside none =
+    load_rest none =
         let sum = ap (sum_below (counted (is_member m) (share (tasks_in m) ticks))) (add-one i) in
-        let counts = cond-false (is_member m i) (share (tasks_in m) ticks i) 0 (not_true (is_member m i) (none inside)) in
+        let counts = cond-false (is_member m i) (share (tasks_in m) ticks i) 0 (not_true (is_member m i) none) in
         (omega arith, omega arith)
       where
         not_true : (b : Bool) → (b ≡ true → ⊥) → b ≡ false
@@ -93,24 +93,14 @@ module _ (m : Members) where
   -- ts are the periods of the members before a place
   pub record Gathered (i : ℕ) (ts : List ℕ) : Type 0 where
     pub few : length ts ≤ i
-    pub some : m.judged < i → 0 < length ts
+    pub some : m.judged.place < i → 0 < length ts
     pub common :
         (n : ℕ) → CommonMultiple ts n → (q : ℕ) → q < i → q < length (tasks_in m) → is_member m q ≡ true → Divides (task_at (tasks_in m) q).period n
     pub only : (n : ℕ) → ((q : ℕ) → q < length (tasks_in m) → Divides (task_at (tasks_in m) q).period n) → CommonMultiple ts n
 
-  pub none_gathered : (ts : List ℕ) → ts ≡ [] → Gathered 0 ts
-  none_gathered ts none =
-      let empty = ap length none in
-      record {
-        few = omega arith;
-        some = λ l. absurd (omega arith);
-        common = λ n all q l. absurd (omega arith);
-        only = λ n all q l. absurd (omega arith);
-      }
-
-  module _ (i : ℕ) (ts : List ℕ) (inside : i < length (tasks_in m)) (so_far : Gathered i ts) where
-    pub gathered_more : (t : ℕ) (ts' : List ℕ) → ts' ≡ ts ++ t ∷ [] → t ≡ (task_at (tasks_in m) i).period → Gathered (i + 1) ts'
-    gathered_more t ts' push is = subst (Gathered (i + 1)) (sym push) all
+  module _ (i : ℕ) (ts : List ℕ) (so_far : Gathered i ts) where
+    pub gathered_more : i < length (tasks_in m) → (t : ℕ) (ts' : List ℕ) → ts' ≡ ts ++ t ∷ [] → t ≡ (task_at (tasks_in m) i).period → Gathered (i + 1) ts'
+    gathered_more inside t ts' push is = subst (Gathered (i + 1)) (sym push) all
       where
         all : Gathered (i + 1) (ts ++ t ∷ [])
         all =
@@ -122,15 +112,15 @@ module _ (m : Members) where
               only = λ n all. multiple_push ts t n (so_far.only n all) (subst (λ x. Divides x n) (sym is) (all i inside));
             }
 
-    pub gathered_rest : MemberAt m i None → Gathered (i + 1) ts
+    pub gathered_rest : (is_member m i ≡ true → ⊥) → Gathered (i + 1) ts
     gathered_rest none =
         record {
           few = omega (arith, so_far.few);
-          some = λ l. elim (cases_eq m.judged i) [
-            | inl e ↦ absurd (none inside (subst (λ q. is_member m q ≡ true) e judged_member))
+          some = λ l. elim (cases_eq m.judged.place i) [
+            | inl e ↦ absurd (none (subst (λ q. is_member m q ≡ true) e judged_member))
             | inr ne ↦ so_far.some (omega arith)
           ];
-          common = λ n common. members_more (λ q. Divides (task_at (tasks_in m) q).period n) i (so_far.common n common) (λ l e. absurd (none l e));
+          common = λ n common. members_more (λ q. Divides (task_at (tasks_in m) q).period n) i (so_far.common n common) (λ l e. absurd (none e));
           only = so_far.only;
         }
 
@@ -145,7 +135,7 @@ module _ (m : Members) where
       (omega arith, omega arith)
 
   -- All members are gathered. Their common period divides that of the case.
-  module _ (i : ℕ) (ts : List ℕ) (proper : Proper ts) (gathered : Gathered i ts) (all : length (tasks_in m) ≤ i) (held : m.judged < length (tasks_in m)) where
+  module _ (i : ℕ) (ts : List ℕ) (proper : Proper ts) (gathered : Gathered i ts) (all : length (tasks_in m) ≤ i) where
     common_short : common_period ts ≤ longest_common_period
     common_short =
         let ours : CommonMultiple ts (common_period (periods_in (tasks_in m))) =
@@ -156,11 +146,11 @@ module _ (m : Members) where
         let le = divisor_le (common_period ts) (common_period (periods_in (tasks_in m)))
         ((common_period_least ts).least (common_period (periods_in (tasks_in m))) ours)
         (multiple_pos 1 (periods_in (tasks_in m)) (omega arith) periods_proper) in
-        let short = m.case.now.short in
+        let short = m.judged.case.now.short in
         omega arith
 
     pub common_answered : period_refusal ts ≡ None
-    common_answered = let short = common_short in let some = gathered.some (omega arith) in grind (arith, nat_tests)
+    common_answered = let short = common_short in let some = gathered.some (let held = m.held in omega arith) in grind (arith, nat_tests)
 
     pub common_is : (P : ℕ) → P ≡ common_period ts → CommonPeriod m P
     common_is P is =

@@ -5,3 +5,4 @@ pub mod Judged
 pub mod Ranked
 pub mod Ruled
 pub mod Stops
+pub mod Walked

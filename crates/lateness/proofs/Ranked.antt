@@ -1,50 +1,31 @@
 -- The tasks of a case in the order of their levels.
-use Rattle.std.proofs.Common.{◌≡◌, ℕ, zero, suc, ◌+◌, ◌-◌, ◌<◌, ◌≤◌, Bool, true, cond, ◌&&◌, eqb, ltb, leb, ◌⊎◌, List, length, Some, None, MatchBool, Option, sym, refl, ap, ◌∙◌, subst, inl, inr, add-one, arith}
+use Rattle.std.proofs.Common.{◌≡◌, ℕ, zero, suc, ◌+◌, ◌-◌, ◌<◌, ◌≤◌, true, cond, ◌&&◌, eqb, ltb, ◌⊎◌, List, length, Some, None, Option, MatchOption, sym, refl, ap, ◌∙◌, subst, inl, inr, add-one, arith}
 use Rattle.std.proofs.lemmas.Bool.{cases_lt, cases_eq, cond-true, cond-false, eq-eqb, ne_eqb}
-use Rattle.std.proofs.lemmas.Bool.Decides.{nat_tests, when_true}
-use Rattle.periods.specs.Multiples.{most_tasks}
-use Rattle.tasks.specs.declared.figures.Figures.{Figures}
+use Rattle.std.proofs.lemmas.Bool.Decides.{nat_tests}
 use Rattle.tasks.specs.declared.case.Case.{Case}
-use Rattle.tasks.specs.Cases.{tasks_of, starts_of}
+use Rattle.tasks.specs.declared.task.TimedTask.{TimedTask}
+use Rattle.tasks.specs.Cases.{tasks_of, starts_of, TaskAt}
 use Rattle.timeline.specs.Processor.{Demands, sum_below, owing, ready, runs, Idle}
 use Rattle.timeline.specs.Timeline.{task_at, demanded}
 use Rattle.timeline.proofs.Backlog.{sum_below_same, sum_below_none}
 use Rattle.timeline.proofs.Lateness.{done-owing}
 use Rattle.timeline.proofs.Levels.{own_is}
 use Rattle.timeline.proofs.Loads.{sum_below_front}
+use Rattle.runner.specs.Processor.{count_of}
 use Rattle.runner.specs.declared.processor.Processor.{Processor}
-use Rattle.runner.specs.Levels.{last_tick}
-use Rattle.runner.specs.Running.{Stands, Added, ToldAt, with_level, nothing}
+use Rattle.runner.specs.Running.{Stands, Added, ToldAt, with_level}
 use Rattle.lateness.specs.Ordered.{level_of, Within, Only, OnlyPlace, IsOrder, demands_in, OrderedOn, RunsIn}
-
--- the only place of a level among those before i
-abbrev pub OnlyBefore : List ℕ → ℕ → ℕ → Option ℕ → Type 0
-OnlyBefore levels level i (Some place) =
-    (place < i) × (level_of levels place ≡ level) × ((q : ℕ) → q < i → level_of levels q ≡ level → q ≡ place)
-OnlyBefore levels level i None = (q : ℕ) → q < i → level_of levels q ≡ level → ⊥
 
 module _ (case : Case) (levels : List ℕ) where
   -- the levels 1 to i have one place each, and stand on the levels before i of a processor
   pub record OrderedTo (i : ℕ) (p : Processor) : Type 0 where
     pub start : p.tick ≡ 0
-    pub count : p.count ≡ i
+    pub count : count_of p ≡ i
     pub each : (level : ℕ) → 1 ≤ level → level ≤ i → (place : ℕ) × Only levels level place
     pub D : Demands
     pub stands : Stands D p
     pub same : (l : ℕ) → l < i → (tick : ℕ) → D l tick ≡ demands_in case levels (suc l) tick
     pub rest : (l : ℕ) → i ≤ l → (tick : ℕ) → D l tick ≡ 0
-
-  pub none_ordered : (p : Processor) → p.tick ≡ 0 → p.count ≡ 0 → Stands nothing p → OrderedTo 0 p
-  none_ordered p start none stands =
-      record {
-        start = start;
-        count = none;
-        each = λ level low high. absurd (omega arith);
-        D = nothing;
-        stands = stands;
-        same = λ l before. absurd (omega arith);
-        rest = λ l past tick. refl;
-      }
 
   -- a level with one place demands what the task there does
   one_place :
@@ -55,10 +36,10 @@ module _ (case : Case) (levels : List ℕ) where
       ∙ own_is (tasks_of case) (starts_of case) (level_of levels) place (omega (arith, only.held))
       (λ p inside e. only.alone p (omega arith) (e ∙ only.has)) tick
 
-  pub ordered_more :
+  ordered_next :
       (i : ℕ) (p q : Processor) (place : ℕ) → OrderedTo i p → length levels ≡ length (tasks_of case) → Only levels (i + 1) place →
       Added p (task_at (tasks_of case) place) (starts_of case place) q → OrderedTo (i + 1) q
-  ordered_more i p q place so_far all only added =
+  ordered_next i p q place so_far all only added =
       record {
         start = added.tick ∙ so_far.start;
         count = omega (arith, added.count, so_far.count);
@@ -66,17 +47,29 @@ module _ (case : Case) (levels : List ℕ) where
           | inl e ↦ (place, subst (λ l. Only levels l place) (sym e) only)
           | inr ne ↦ so_far.each level low (omega arith)
         ];
-        D = with_level so_far.D p.count (demanded (tasks_of case) (starts_of case) place);
+        D = with_level so_far.D (count_of p) (demanded (tasks_of case) (starts_of case) place);
         stands = added.stands so_far.D so_far.stands;
-        same = λ l before tick. elim (cases_eq l p.count) [
+        same = λ l before tick. elim (cases_eq l (count_of p)) [
           | inl e ↦
-              cond-true (eqb l p.count) _ _ (eq-eqb l p.count e) ∙ sym (one_place (i + 1) place only all tick)
+              cond-true (eqb l (count_of p)) _ _ (eq-eqb l (count_of p) e) ∙ sym (one_place (i + 1) place only all tick)
               ∙ ap (λ n. demands_in case levels n tick) (let x : i + 1 ≡ suc l = omega (arith, so_far.count) in x)
-          | inr ne ↦ cond-false (eqb l p.count) _ _ (ne_eqb l p.count ne) ∙ so_far.same l (omega (arith, so_far.count)) tick
+          | inr ne ↦ cond-false (eqb l (count_of p)) _ _ (ne_eqb l (count_of p) ne) ∙ so_far.same l (omega (arith, so_far.count)) tick
         ];
         rest = λ l past tick.
-            cond-false (eqb l p.count) _ _ (ne_eqb l p.count (λ e. omega (arith, so_far.count))) ∙ so_far.rest l (omega arith) tick;
+            cond-false (eqb l (count_of p)) _ _ (ne_eqb l (count_of p) (λ e. omega (arith, so_far.count))) ∙ so_far.rest l (omega arith) tick;
       }
+
+  -- the place of the next level takes its task
+  pub ordered_more :
+      (level : ℕ) (p q : Processor) (place : ℕ) (timed : TimedTask) → 1 ≤ level → OrderedTo (level - 1) p →
+      length levels ≡ length (tasks_of case) → Only levels level place → TaskAt case place (Some timed) →
+      Added p timed.task.figures timed.start q → OrderedTo level q
+  ordered_more level p q place timed low so_far all only task added =
+      let next : level - 1 + 1 ≡ level = omega arith in
+      subst (λ i. OrderedTo i q) next
+      (ordered_next (level - 1) p q place so_far all (subst (λ l. Only levels l place) (sym next) only)
+      (subst (λ start. Added p (task_at (tasks_of case) place) start q) (sym task.2)
+      (subst (λ figures. Added p figures timed.start q) (sym (task.1 _)) added)))
 
   -- All levels are there.
   module _ (within : Within levels) where
@@ -110,16 +103,6 @@ module _ (case : Case) (levels : List ℕ) where
               | inl before ↦ so_far.same l before tick
               | inr past ↦ so_far.rest l past tick ∙ sym (no_place (suc l) (inr (omega arith)) all tick)
             ]
-
--- a task was put on a processor that had not run, and had room
-pub put_on :
-    (p q : Processor) (r : Bool) (figures figures' : Figures) (start start' : ℕ) → figures' ≡ figures → start' ≡ start → start ≤ last_tick →
-    p.tick ≡ 0 → p.count < most_tasks →
-    r ≡ (eqb p.tick 0 && (ltb p.count most_tasks && leb start last_tick)) → MatchBool r (Added p figures start q) (q ≡ p) → Added p figures' start' q
-put_on p q r figures figures' start start' same at short zero' room value after =
-    subst (λ s. Added p figures' s q) (sym at)
-    (subst (λ f. Added p f start q) (sym same)
-    (when_true _ _ (value ∙ (let e : (eqb p.tick 0 && (ltb p.count most_tasks && leb start last_tick)) ≡ true = grind (arith, nat_tests) in e)) after))
 
 -- The levels from 1 are those of a processor from 0: level 0 has no task.
 module _ (D : Demands) (none : (tick : ℕ) → D 0 tick ≡ 0) where
@@ -195,3 +178,10 @@ module _ (case : Case) (levels : List ℕ) (tick : ℕ) (p : Processor) (on : Or
   )
   told_place level told None none =
       let each = on.0.each (level + 1) (omega arith) (omega (arith, known_level level told)) in absurd (none each.0 each.1)
+
+  -- who runs, from the level that the processor tells
+  pub told_runs :
+      (P : ℕ → Type 0) (runs place : Option ℕ) → ToldAt p tick (Some runs) → MatchOption runs (place ≡ None) P →
+      ((level : ℕ) → P level → OnlyPlace levels (level + 1) place) → RunsIn case levels tick (Some place)
+  told_runs P (Some level) place told result only = told_place level told place (only level result)
+  told_runs P None place told result only = subst (λ r. RunsIn case levels tick (Some r)) (sym result) (told_idle told)

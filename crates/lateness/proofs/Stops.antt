@@ -86,7 +86,11 @@ module _ (p₀ : Processor) (level tick : ℕ) (p q : Processor) (end : ℕ) (sp
       let u = so_far.tasks in
       let r = ran in
       record {
-        tasks = record { count = t.count ∙ u.count; work = t.work ∙ u.work; period = t.period ∙ u.period };
+        tasks = record {
+          count = t.count ∙ u.count;
+          work = λ l. t.work l ∙ u.work l;
+          period = λ l. t.period l ∙ u.period l;
+        };
         later = omega (arith, so_far.later);
         stands = λ D s. ran.stands D (so_far.stands D s);
         stopped = stopped;

@@ -3,3 +3,4 @@ pub mod Members
 pub mod Ordered
 pub mod Running
 pub mod Served
+pub mod Walk

@@ -6,50 +6,44 @@ ghost use Rattle.lateness.specs.Below.{LateBelow, NeverLateBelow, Responds};
 
 use crate::members::Members;
 use crate::running::run_to;
-use tasks::{Case, Places};
+use tasks::Judged;
 
 // Whether some request of the judged task is late on the endless timeline, below the places above it. The judged place
 // and places without a task count as not above; a judged place without a task is never late.
-pub fn late_below(case: &Case, judged: usize, above: &Places) -> bool
-    ensures value { MatchBool result (LateBelow case.now judged above.now) (NeverLateBelow case.now judged above.now) }
+pub fn late_below(judged: Judged) -> bool
+    ensures value { MatchBool result (LateBelow judged.entry.case.now judged.entry.place judged.entry.above.now) (NeverLateBelow judged.entry.case.now judged.entry.place judged.entry.above.now) }
     ensures decides { (tasks : List Figures) → AllFair tasks → Decides tasks }
     ensures overloaded { (tasks : List Figures) → AllFair tasks → Overloaded tasks }
     ensures independent { (tasks : List Figures) → Independent tasks }
     ensures less { (tasks : List Figures) → AllFair tasks → LessIsNeverLater tasks }
     ensures worst_starts { (tasks : List Figures) → AllFair tasks → WorstStarts tasks }
 {
-    case.task(judged).is_some() && worst_response(case, judged, above).is_none()
+    judged.case.task(judged.place).is_some() && worst_response(judged).is_none()
 }
 
 // The worst response of the judged task below the places above it; None where it is ever late, or there is no task.
-pub fn worst_response(case: &Case, judged: usize, above: &Places) -> Option<u32>
-    ensures value { Responds case.now judged above.now result }
+pub fn worst_response(judged: Judged) -> Option<u32>
+    ensures value { Responds judged.entry.case.now judged.entry.place judged.entry.above.now result }
     ensures related { (tasks : List Figures) → AllFair tasks → StartsRelate tasks }
 {
-    let timed = case.task(judged)?;
-    let figures = timed.task.figures();
-    let members = Members {
-        case,
-        judged,
-        above,
-    };
+    let members = Members::of(judged)?;
     let period = members.common_period();
     if members.load(period) > period {
         return None;
     }
+    let timed = members.own();
+    let figures = timed.task.figures();
     // All repeats from here on: the requests up to this tick stand for all.
     let until = members.latest_start() + 2 * period;
     let mut processor = members.processor();
     let level = processor.count() - 1;
-    let mut request = u32::from(timed.start);
     let mut worst: u32 = 0;
-    while request < until {
+    for request in (u32::from(timed.start)..until).step_by(usize::from(figures.period)) {
         let stopped = run_to(&mut processor, level, request + u32::from(figures.deadline));
         if processor.left(level) > 0 {
             return None;
         }
         worst = worst.max(stopped - request);
-        request += u32::from(figures.period);
     }
     Some(worst)
 }

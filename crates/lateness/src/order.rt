@@ -4,6 +4,7 @@ ghost use Rattle.tasks.specs.declared.figures.Figures.{Figures};
 ghost use Rattle.timeline.specs.Laws.{AllFair, Repeats};
 ghost use Rattle.lateness.specs.Ordered.{level_of, Within, OnlyPlace, OrderedOn, RunsIn};
 
+use crate::running::put;
 use runner::Processor;
 use tasks::Case;
 
@@ -14,10 +15,8 @@ pub fn runs_at(case: &Case, levels: &[u8], tick: u32) -> Option<Option<usize>>
     ensures repeats { (tasks : List Figures) → AllFair tasks → Repeats tasks }
 {
     let processor = ordered(case, levels)?;
-    match runner::runs_at(processor, tick)? {
-        Some(level) => Some(only_place(levels, level + 1)),
-        None => Some(None),
-    }
+    let runs = runner::runs_at(processor, tick)?;
+    Some(runs.and_then(|level| only_place(levels, level + 1)))
 }
 
 // The tasks of the case on a processor, in the order of their levels.
@@ -29,10 +28,10 @@ fn ordered(case: &Case, levels: &[u8]) -> Option<Processor>
         return None;
     }
     let mut processor = Processor::new();
-    for level in 0..count {
-        let place = only_place(levels, level + 1)?;
-        let timed = case.task(place)?;
-        processor.add(timed.task, u32::from(timed.start));
+    // The levels are counted: each number from 1 is a level.
+    for level in 1..=count {
+        let place = only_place(levels, level)?;
+        put(&mut processor, case.task(place)?);
     }
     Some(processor)
 }
@@ -41,26 +40,20 @@ fn ordered(case: &Case, levels: &[u8]) -> Option<Processor>
 fn within(levels: &[u8]) -> bool
     ensures { Decides result (Within levels.now) }
 {
-    for level in levels {
-        if *level == 0 || usize::from(*level) > levels.len() {
-            return false;
-        }
-    }
-    true
+    levels
+        .iter()
+        .all(|level| *level > 0 && usize::from(*level) <= levels.len())
 }
 
 // The place that has a level, if only one has it.
 fn only_place(levels: &[u8], level: usize) -> Option<usize>
     ensures { OnlyPlace levels.now level result }
 {
-    let mut only = None;
-    for (place, other) in levels.iter().enumerate() {
-        if usize::from(*other) == level {
-            if only.is_some() {
-                return None;
-            }
-            only = Some(place);
-        }
-    }
-    only
+    let first = levels
+        .iter()
+        .position(|other| usize::from(*other) == level)?;
+    let last = levels
+        .iter()
+        .rposition(|other| usize::from(*other) == level)?;
+    if first == last { Some(first) } else { None }
 }

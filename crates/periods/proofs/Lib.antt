@@ -1,6 +1,5 @@
 pub mod Division
 pub mod Euclid
-pub mod Rows
 pub mod Common
 pub mod Starts
 pub mod Ranks

@@ -1,16 +1,20 @@
 -- What the loops over the places keep.
-use Rattle.std.proofs.Common.{◌≡◌, ℕ, suc, ◌+◌, ◌-◌, ◌*◌, ◌/◌, ◌%◌, ◌<◌, ◌≤◌, List, [], ◌∷◌, ◌++◌, length, get_or, take, drop, set, replicate, sym, refl, ap, ◌∙◌, ap₂, mod-lt, mul-pos, le-mul_of_pos_right, arith}
+use Rattle.std.proofs.Common.{◌≡◌, ℕ, zero, suc, ◌+◌, ◌-◌, ◌*◌, ◌/◌, ◌%◌, ◌<◌, ◌≤◌, List, [], ◌∷◌, ◌++◌, length, get_or, take, drop, set, replicate, sym, refl, ap, ◌∙◌, ap₂, mod-lt, mul-pos, le-mul_of_pos_right, arith}
 use native.Mathlib.Nat.{mul-div_cancel_left}
-use Rattle.std.proofs.lemmas.List.{append-nil, append_assoc, length-set, take-append-drop, take_more_set, drop-drop, drop-set-lt, drop-replicate, at_drop_more, at_drop_all}
+use Rattle.std.proofs.lemmas.List.{append-nil, append_assoc, length-append, length-set, take-append-drop, take_more_set, drop-drop, drop-set-lt, drop-replicate, at_drop_more, at_drop_all}
 use Rattle.std.proofs.lemmas.Nat.{div_below}
 use Rattle.periods.specs.Divisors.{gcd}
 use Rattle.periods.specs.Multiples.{lcm, multiple, common_period, most_tasks, Proper}
 use Rattle.periods.specs.Listed.{radices, product, digits, number_of_choices}
 use Rattle.periods.specs.Lists.{in_places}
 use Rattle.periods.proofs.Euclid.{gcd_pos}
-use Rattle.periods.proofs.Rows.{proper_rest}
 use Rattle.periods.proofs.Common.{lcm_pos, multiple_pos, multiple_grows}
 use Rattle.periods.proofs.Ranks.{factor_pos, length_digits}
+
+proper_rest : (ts : List ℕ) (n : ℕ) → Proper ts → Proper (drop n ts)
+proper_rest ts zero h = h
+proper_rest [] (suc n) h = h
+proper_rest (t ∷ ts) (suc n) h = proper_rest ts n (λ q below. h (suc q) (omega arith))
 
 -- m is the least common multiple of the first i periods, and what is left takes it to the common period
 pub record MultipleSoFar (ts : List ℕ) (i m : ℕ) : Type 0 where
@@ -34,15 +38,12 @@ multiple_more ts i m t l below proper h at is =
       rest = rest;
     }
 
-pub multiple_all : (ts : List ℕ) (i m : ℕ) → length ts ≤ i → MultipleSoFar ts i m → m ≡ common_period ts
-multiple_all ts i m past h = sym (at_drop_all (multiple m) ts i past) ∙ h.rest
-
--- the radices of the first i places are written, and total is their product
-pub record RadicesSoFar (ts : List ℕ) (i m total : ℕ) (radix : List ℕ) : Type 0 where
+-- the radices of the first i places are listed, and total is their product
+pub record RadicesSoFar (ts : List ℕ) (i m total : ℕ) (listed : List ℕ) : Type 0 where
   pub common : MultipleSoFar ts i m
-  pub width : length radix ≡ most_tasks
   pub pos : 1 ≤ total
-  pub written : take i radix ++ radices m (drop i ts) ≡ radices 1 ts
+  pub long : length listed ≡ i
+  pub written : listed ++ radices m (drop i ts) ≡ radices 1 ts
   pub counted : total * product (radices m (drop i ts)) ≡ number_of_choices ts
 
 radices_pos : (m : ℕ) (ts : List ℕ) → Proper ts → 0 < product (radices m ts)
@@ -50,49 +51,36 @@ radices_pos m [] proper = omega arith
 radices_pos m (t ∷ ts) proper =
     mul-pos (gcd_pos t m (proper 0 (omega arith)).0) (radices_pos (lcm m t) ts (λ q below. proper (suc q) (omega arith)))
 
-pub radices_none : (ts radix : List ℕ) → Proper ts → length radix ≡ most_tasks → RadicesSoFar ts 0 1 1 radix
-radices_none ts radix proper width = record {
+pub radices_none : (ts listed : List ℕ) → Proper ts → listed ≡ [] → RadicesSoFar ts 0 1 1 listed
+radices_none ts listed proper none = record {
   common = multiple_none ts proper;
-  width = width;
   pos = omega arith;
-  written = refl;
+  long = ap length none;
+  written = ap (λ gs. gs ++ radices 1 ts) none;
   counted = omega arith;
 }
 
 pub radices_more :
-    (ts : List ℕ) (i m total : ℕ) (radix : List ℕ) (t g l : ℕ) →
-    i < length ts → length ts ≤ most_tasks → Proper ts → RadicesSoFar ts i m total radix →
-    t ≡ get_or ts i 0 → g ≡ gcd t m → l ≡ lcm m t → RadicesSoFar ts (i + 1) l (total * g) (set radix i g)
-radices_more ts i m total radix t g l below few proper h at is-g is-l =
+    (ts : List ℕ) (i m total : ℕ) (listed : List ℕ) (t g l : ℕ) →
+    i < length ts → Proper ts → RadicesSoFar ts i m total listed →
+    t ≡ get_or ts i 0 → g ≡ gcd t m → l ≡ lcm m t → RadicesSoFar ts (i + 1) l (total * g) (listed ++ g ∷ [])
+radices_more ts i m total listed t g l below proper h at is-g is-l =
     let next : radices m (drop i ts) ≡ g ∷ radices l (drop (i + 1) ts) =
     rw (is-g, is-l, at) (at_drop_more (radices m) ts i 0 below) in
     record {
       common = multiple_more ts i m t l below proper h.common at is-l;
-      width = length-set radix i g ∙ h.width;
       pos = mul-pos h.pos (rw (is-g, at) (gcd_pos (get_or ts i 0) m (proper i below).0));
-      written = rw (take_more_set radix i g (omega arith), append_assoc, ← next) h.written;
+      long = omega (arith, h.long, length-append listed (g ∷ []));
+      written = rw (append_assoc, ← next) h.written;
       counted = omega (arith, ap (λ ns. total * product ns) next, h.counted);
     }
 
 -- the product so far is never above the number of choices
 pub radices_within :
-    (ts : List ℕ) (i m total : ℕ) (radix : List ℕ) →
-    Proper ts → RadicesSoFar ts i m total radix → total ≤ number_of_choices ts
-radices_within ts i m total radix proper h =
+    (ts : List ℕ) (i m total : ℕ) (listed : List ℕ) →
+    Proper ts → RadicesSoFar ts i m total listed → total ≤ number_of_choices ts
+radices_within ts i m total listed proper h =
     rw (← h.counted) (le-mul_of_pos_right total (radices_pos m (drop i ts) (proper_rest ts i proper)))
-
--- the radices of all places are written, and total is their product
-abbrev pub RadicesOf : List ℕ → List ℕ → ℕ → Type 0
-RadicesOf ts radix total = (take (length ts) radix ≡ radices 1 ts) × (total ≡ number_of_choices ts)
-
-pub radices_all :
-    (ts : List ℕ) (i m total : ℕ) (radix : List ℕ) →
-    i ≡ length ts → RadicesSoFar ts i m total radix → RadicesOf ts radix total
-radices_all ts i m total radix end h =
-    let past : length ts ≤ i = omega arith in
-    let written = sym (at_drop_all (λ ns. take i radix ++ radices m ns) ts i past) ∙ h.written in
-    let counted = sym (at_drop_all (λ ns. total * product (radices m ns)) ts i past) ∙ h.counted in
-    (rw (← end) (sym (append-nil (take i radix)) ∙ written), omega (arith, counted))
 
 -- the first i digits of a rank are written; rest is what is left of it, below the product of the later radices
 pub record DigitsSoFar (gs : List ℕ) (rank i rest weight : ℕ) (starts : List ℕ) : Type 0 where

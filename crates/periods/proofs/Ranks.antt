@@ -18,12 +18,6 @@ radix_divides m [] q h = absurd (omega arith)
 radix_divides m (t ∷ ts) zero h = (gcd_greatest t m).divides_first
 radix_divides m (t ∷ ts) (suc q) h = radix_divides (lcm m t) ts q (omega arith)
 
-pub below_length : (gs ss : List ℕ) → Below gs ss → length ss ≡ length gs
-below_length [] [] h = refl
-below_length [] (s ∷ ss) h = absurd h
-below_length (g ∷ gs) [] h = absurd h
-below_length (g ∷ gs) (s ∷ ss) h = ap suc (below_length gs ss h.1)
-
 pub below_at : (gs ss : List ℕ) (q : ℕ) → Below gs ss → q < length gs → get_or ss q 0 < get_or gs q 0
 below_at [] ss q h k = absurd (omega arith)
 below_at (g ∷ gs) [] q h k = absurd h

@@ -11,7 +11,7 @@ mod row;
 mod tests;
 
 pub use list::Choices;
-pub use row::Periods;
+pub use row::{NotTaken, Periods};
 
 // The most tasks on one controller.
 pub const MOST_TASKS: usize = 8;

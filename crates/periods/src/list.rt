@@ -1,10 +1,11 @@
-ghost use Rattle.std.specs.Prelude.{◌≡◌, ◌≤◌, length, take};
-ghost use Rattle.periods.specs.Listed.{most_choices, number_of_choices, radices};
-ghost use Rattle.periods.specs.Multiples.{most_tasks};
+ghost use Rattle.std.specs.Prelude.{◌≡◌, ◌≤◌};
+ghost use Rattle.periods.specs.Listed.{most_choices, number_of_choices, radices as radices_of};
 ghost use Rattle.periods.specs.Rows.{periods_of};
+ghost use Rattle.short_list.specs.Items.{items_of};
 
 use crate::MOST_TASKS;
 use crate::row::Periods;
+use short_list::ShortList;
 
 mod calls;
 
@@ -12,10 +13,9 @@ mod calls;
 #[derive(Clone, Copy)]
 pub struct Choices {
     periods: Periods,
-    radix: [u16; MOST_TASKS],
+    radices: ShortList<u16, MOST_TASKS>,
     total: u32,
-    ghost width: { length radix ≡ most_tasks },
-    ghost exact: { take (length (periods_of periods)) radix ≡ radices 1 (periods_of periods) },
+    ghost exact: { items_of radices ≡ radices_of 1 (periods_of periods) },
     ghost counted: { total ≡ number_of_choices (periods_of periods) },
     ghost few: { total ≤ most_choices },
 }

@@ -1,13 +1,11 @@
-use crate::Periods;
+use crate::{NotTaken, Periods};
 use refusals::Refusal;
 use std::test::Fail;
 
 fn given(each: &[u16]) -> Result<Periods, Fail> {
     let mut periods = Periods::new();
     for period in each {
-        if !periods.add(*period) {
-            Err("a period is not taken")?;
-        }
+        periods.add(*period)?;
     }
     Ok(periods)
 }
@@ -15,10 +13,10 @@ fn given(each: &[u16]) -> Result<Periods, Fail> {
 #[test]
 fn takes_eight_proper_periods(rt: HostRuntime) -> Result<(), Fail> {
     let mut periods = given(&[1, 2, 3, 4, 5, 6, 2_000])?;
-    assert!(rt; !periods.add(0));
-    assert!(rt; !periods.add(2_001));
-    assert!(rt; periods.add(8));
-    assert!(rt; !periods.add(9));
+    assert_eq!(rt; periods.add(0), Err(NotTaken::Improper));
+    assert_eq!(rt; periods.add(2_001), Err(NotTaken::Improper));
+    assert_eq!(rt; periods.add(8), Ok(()));
+    assert_eq!(rt; periods.add(9), Err(NotTaken::NoPlace));
     Ok(())
 }
 

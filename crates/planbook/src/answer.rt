@@ -1,9 +1,9 @@
-// What an accepted call answers.
+// Where a call is carried out, and what it answers where it is accepted.
 use crate::call::Call;
 use crate::failure::Failure;
 use judges::Judge;
 use planner::plan_for;
-use std::alloc::Global;
+use std::alloc::{AllocError, Global};
 use std::fmt;
 use tasks::{Figures, Table};
 
@@ -24,18 +24,20 @@ pub struct Placed {
     level: u8,
 }
 
+impl fmt::Display for Placed {
+    fn fmt<W: fmt::Write>(&self, f: &mut fmt::Formatter<W>) -> fmt::Result {
+        let Placed { id, start, level } = self;
+        write!(f, "{id}:{start}:{level}")
+    }
+}
+
 impl fmt::Display for Answer {
     fn fmt<W: fmt::Write>(&self, f: &mut fmt::Formatter<W>) -> fmt::Result {
         f.write_str("ok")?;
         match self {
             Answer::Done => Ok(()),
             Answer::Number(number) => write!(f, " {number}"),
-            Answer::Ids(ids) => {
-                for id in ids.iter() {
-                    write!(f, " {id}")?;
-                }
-                Ok(())
-            }
+            Answer::Ids(ids) => ids.iter().try_for_each(|id| write!(f, " {id}")),
             Answer::Task(figures) => {
                 let Figures {
                     work,
@@ -44,69 +46,80 @@ impl fmt::Display for Answer {
                 } = figures;
                 write!(f, " {work} {period} {deadline}")
             }
-            Answer::Plan(tasks) => {
-                for task in tasks.iter() {
-                    let Placed { id, start, level } = task;
-                    write!(f, " {id}:{start}:{level}")?;
-                }
-                Ok(())
+            Answer::Plan(tasks) => tasks.iter().try_for_each(|task| write!(f, " {task}")),
+        }
+    }
+}
+
+// Where a script is answered: the table that its calls change, and the judge that plans it.
+#[derive(Drop)]
+pub struct Desk<'a, J> {
+    pub heap: Global,
+    pub judge: &'a J,
+    pub table: Table,
+}
+
+impl<J: Judge> Desk<'_, J> {
+    // What a line is answered; a line without words is answered by nothing.
+    pub fn respond(&mut self, line: &[u8]) -> Result<Option<Answer>, Failure> {
+        let words = script::words(self.heap, line)?;
+        Call::read(words.as_slice())?
+            .map(|call| self.carry_out(call))
+            .transpose()
+    }
+
+    // Carries a call out on the table; the library's own answers and refusals are handed on.
+    fn carry_out(&mut self, call: Call) -> Result<Answer, Failure> {
+        let table = &mut self.table;
+        let answer = match call {
+            Call::Enter { id, figures } => {
+                table.enter(id, figures)?;
+                Answer::Done
             }
-        }
+            Call::Amend { id, figures } => {
+                table.amend(id, figures)?;
+                Answer::Done
+            }
+            Call::Strike { id } => {
+                table.strike(id)?;
+                Answer::Done
+            }
+            Call::Count => Answer::Number(table.count() as u64),
+            Call::Ids => Answer::Ids(self.ids()?),
+            Call::Period => Answer::Number(u64::from(table.common_period()?)),
+            Call::Demand => Answer::Number(u64::from(table.load()?)),
+            Call::Choices => Answer::Number(u64::from(table.choices()?.count())),
+            Call::Task { id } => Answer::Task(table.figures(id)?),
+            Call::Plan => Answer::Plan(self.planned()?),
+        };
+        Ok(answer)
     }
-}
 
-// The ids of the tasks that stand, in rising order.
-fn ids(heap: Global, table: &Table) -> Result<Vec<u8>, Failure> {
-    let mut ids = Vec::new(heap);
-    for row in table.rows() {
-        ids.push(row.id)?;
+    // The ids of the tasks that stand, in rising order.
+    fn ids(&self) -> Result<Vec<u8>, AllocError> {
+        self.table
+            .rows()
+            .iter()
+            .map(|row| row.id)
+            .collect(self.heap)
     }
-    Ok(ids)
-}
 
-// A plan of the table, by rising id.
-fn planned<J: Judge>(heap: Global, judge: &J, table: &Table) -> Result<Vec<Placed>, Failure> {
-    let plan = plan_for(judge, table)?;
-    let mut tasks = Vec::new(heap);
-    for (place, row) in table.rows().iter().enumerate() {
-        if let (Some(start), Some(level)) = (plan.start(place), plan.level(place)) {
-            tasks.push(Placed {
-                id: row.id,
-                start,
-                level,
-            })?;
-        }
+    // A plan of the table, by rising id.
+    fn planned(&self) -> Result<Vec<Placed>, Failure> {
+        let plan = plan_for(self.judge, &self.table)?;
+        let placed = self
+            .table
+            .rows()
+            .iter()
+            .enumerate()
+            .filter_map(|(place, row)| {
+                Some(Placed {
+                    id: row.id,
+                    start: plan.start(place)?,
+                    level: plan.level(place)?,
+                })
+            })
+            .collect(self.heap)?;
+        Ok(placed)
     }
-    Ok(tasks)
-}
-
-// Carries a call out on the table; the library's own answers and refusals are handed on.
-pub fn carry_out<J: Judge>(
-    heap: Global,
-    judge: &J,
-    table: &mut Table,
-    call: Call,
-) -> Result<Answer, Failure> {
-    let answer = match call {
-        Call::Enter { id, figures } => {
-            table.enter(id, figures)?;
-            Answer::Done
-        }
-        Call::Amend { id, figures } => {
-            table.amend(id, figures)?;
-            Answer::Done
-        }
-        Call::Strike { id } => {
-            table.strike(id)?;
-            Answer::Done
-        }
-        Call::Count => Answer::Number(table.count() as u64),
-        Call::Ids => Answer::Ids(ids(heap, table)?),
-        Call::Period => Answer::Number(u64::from(table.common_period()?)),
-        Call::Demand => Answer::Number(u64::from(table.load()?)),
-        Call::Choices => Answer::Number(u64::from(table.choices()?.count())),
-        Call::Task { id } => Answer::Task(table.figures(id)?),
-        Call::Plan => Answer::Plan(planned(heap, judge, table)?),
-    };
-    Ok(answer)
 }

@@ -1,11 +1,13 @@
 // The calls that a script can make.
 ghost use Rattle.std.specs.Prelude.{◌≡◌};
 ghost use Rattle.script.specs.Numerals.{number_up_to};
+ghost use Rattle.planbook.specs.Reading.{Reads};
 ghost use Rattle.planbook.specs.declared.failure.LineFault.TheVariants.{NoId, NoFigure};
 ghost use Rattle.std.specs.Option.{ok_or};
 
 use crate::failure::LineFault;
 use script::number_up_to;
+use std::num::TryFromIntError;
 use tasks::Figures;
 
 #[derive(Clone, Copy)]
@@ -49,28 +51,31 @@ impl Call {
     }
 }
 
+// An id and a figure are read in one way, by `number`; each keeps a clause that says its limit and its fault.
 fn read_id(word: &[u8]) -> Result<u8, LineFault>
     ensures { result ≡ ok_or (number_up_to 255 word.now) NoId }
 {
-    match number_up_to(u32::from(u8::MAX), word) {
-        Some(id) => Ok(id as u8),
-        None => Err(LineFault::NoId),
-    }
+    number(word).ok_or(LineFault::NoId)
 }
 
 fn read_figure(word: &[u8]) -> Result<u16, LineFault>
     ensures { result ≡ ok_or (number_up_to 65535 word.now) NoFigure }
 {
-    match number_up_to(u32::from(u16::MAX), word) {
-        Some(figure) => Ok(figure as u16),
-        None => Err(LineFault::NoFigure),
-    }
+    number(word).ok_or(LineFault::NoFigure)
 }
 
 fn read_figures(work: &[u8], period: &[u8], deadline: &[u8]) -> Result<Figures, LineFault> {
-    Ok(Figures {
-        work: read_figure(work)?,
-        period: read_figure(period)?,
-        deadline: read_figure(deadline)?,
-    })
+    Ok(Figures::new(
+        read_figure(work)?,
+        read_figure(period)?,
+        read_figure(deadline)?,
+    ))
+}
+
+// The number that the word writes, where its type holds it.
+pub(crate) fn number<T: TryFrom<u32, Error = TryFromIntError> + Drop>(word: &[u8]) -> Option<T>
+    ensures { Reads T.try_from_gives word.now result }
+{
+    let number = number_up_to(u32::MAX, word)?;
+    T::try_from(number).ok()
 }

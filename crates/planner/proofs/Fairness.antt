@@ -4,11 +4,10 @@ use Rattle.std.specs.List.{AllByRecursion as All}
 use Rattle.tasks.specs.declared.case.Case.{Case}
 use Rattle.tasks.specs.declared.figures.Figures.{Figures}
 use Rattle.tasks.specs.declared.table.Table.{Table}
-use Rattle.tasks.specs.Cases.{timed_of}
 use Rattle.tasks.specs.Figures.{Fair}
 use Rattle.tasks.specs.Tables.{rows_of, figures_in}
 use Rattle.tasks.proofs.Ordered.{fair_from_tidy}
-use Rattle.tasks.proofs.Timely.{fair_from_test_all}
+use Rattle.tasks.proofs.Placed.{fair_task}
 use Rattle.timeline.specs.Laws.{AllFair}
 use Rattle.judges.specs.Meaning.{tasks_of}
 
@@ -22,4 +21,4 @@ pub table_fair : (table : Table) → AllFair (figures_in table)
 table_fair table = rows_fair (λ row. row.figures) (rows_of table) (fair_from_tidy 1 (rows_of table) table.tidy)
 
 pub case_fair : (case : Case) → AllFair (tasks_of case)
-case_fair case = rows_fair (λ row. row.figures) (timed_of case) (fair_from_test_all (timed_of case) case.timely)
+case_fair case q inside = fair_task case q inside _

@@ -3,21 +3,25 @@ use Rattle.std.proofs.Common.{◌≡◌, ℕ, zero, suc, ◌+◌, ◌<◌, ◌�
 use Rattle.std.specs.List.{swap}
 use Rattle.std.proofs.lemmas.Bool.{cases_lt, cases_eq}
 use Rattle.std.proofs.lemmas.Bool.Decides.{nat_tests}
+use Rattle.tasks.specs.declared.case.Case.{Case}
 use Rattle.tasks.specs.declared.figures.Figures.{Figures}
+use Rattle.tasks.specs.declared.judged.Judged.{Judged}
+use Rattle.tasks.specs.Places.{has}
 use Rattle.timeline.specs.Laws.{AllFair}
-use Rattle.judges.specs.Meaning.{Meaning, Lawful, Rules}
+use Rattle.judges.specs.Meaning.{Meaning, Lawful, Rules, MeaningAt, tasks_of, starts_of}
 use Rattle.planner.specs.declared.order.Order.{Order}
 use Rattle.planner.specs.Filling.{up_to, PassesAt, FilledFrom}
-use Rattle.planner.specs.Orders.{Levels, Passes, NonePasses, Exchanged, place_at, position_of, level_of}
-use Rattle.planner.specs.Positions.{place_in, position_in}
-use Rattle.planner.proofs.Positions.{other, exchanged_at, position_exchanged}
+use Rattle.planner.specs.Orders.{Levels, Passes, NonePasses, Exchanged, places_of, place_at, position_of, level_of}
+use Rattle.planner.specs.Positions.{place_in, position_in, exchanged}
+use Rattle.planner.proofs.Fairness.{case_fair}
+use Rattle.planner.proofs.Positions.{other, exchanged_at, length-exchanged, position_exchanged}
 
 rules_same : (r : Bool) (P Q : Type 0) → (P → Q) → (Q → P) → Rules r P → Rules r Q
 rules_same true P Q there back rule = there rule
 rules_same false P Q there back rule = λ q. rule (back q)
 
 -- the levels of an order are levels
-pub order_levels : (n : ℕ) (order : Order) → order.count ≡ n → Levels n (level_of order)
+pub order_levels : (n : ℕ) (order : Order) → length (places_of order) ≡ n → Levels n (level_of order)
 order_levels n order whole = record {
   least = λ place below. omega arith;
   most = λ place below. omega (arith, (order.has place (omega arith)).0);
@@ -43,24 +47,21 @@ greatest f (suc k) =
     ]
 
 -- an exchange moves two places, and keeps the set of those up to a position past both
-module _ (i j : ℕ) (before after : Order) (moved : Exchanged i j before after) (i_in : i < before.count) (j_in : j < before.count) where
-  at_moved : after.at ≡ swap before.at i j
-  at_moved = let e = moved.at in grind (arith, nat_tests)
-
-  room : before.count ≤ length before.at
-  room = omega (arith, before.few, before.width)
+module _ (i j : ℕ) (before after : Order) (moved : Exchanged i j before after) (i_in : i < length (places_of before))
+    (j_in : j < length (places_of before)) where
+  at_moved : places_of after ≡ swap (places_of before) i j
+  at_moved = let e = moved in grind (arith, nat_tests)
 
   place_moved : (l : ℕ) → place_at after l ≡ place_at before (other i j l)
-  place_moved l =
-      let fits = room in
-      ap (λ at. place_in at l) at_moved ∙ exchanged_at before.at i j (omega arith) (omega arith) l
+  place_moved l = ap (λ at. place_in at l) at_moved ∙ exchanged_at (places_of before) i j i_in j_in l
 
-  position_moved : (place : ℕ) → place < before.count → position_of after place ≡ other i j (position_of before place)
+  position_moved : (place : ℕ) → place < length (places_of before) → position_of after place ≡ other i j (position_of before place)
   position_moved place below =
       ap (λ at. position_in at place) at_moved
-      ∙ position_exchanged before.count before.at i j room before.holds i_in j_in before.has place below
+      ∙ position_exchanged (length (places_of before)) (places_of before) i j (omega arith) before.holds i_in j_in before.has place below
 
-  up_to_moved : (k : ℕ) → i ≤ k → j ≤ k → (place : ℕ) → place < before.count → up_to after k place ≡ up_to before k place
+  up_to_moved :
+      (k : ℕ) → i ≤ k → j ≤ k → (place : ℕ) → place < length (places_of before) → up_to after k place ≡ up_to before k place
   up_to_moved k i_to j_to place below = let e = position_moved place below in grind (arith, nat_tests)
 
 module _ (M : Meaning) (lawful : Lawful M) (tasks : List Figures) (fair : AllFair tasks) (starts : ℕ → ℕ) where
@@ -73,55 +74,64 @@ module _ (M : Meaning) (lawful : Lawful M) (tasks : List Figures) (fair : AllFai
       lawful.fewer tasks starts judged above less fair
       (λ q h. record { held = h.held; other = h.other; chosen = within q h.held h.other h.chosen }) ruling
 
-  -- nothing is filled yet
-  pub filled_none : (order : Order) (from : ℕ) → order.count ≡ length tasks → from ≡ length tasks → FilledFrom M tasks starts order from
-  filled_none order from whole end = record { count = whole; passes = λ position above inside. absurd (omega arith) }
+-- the same in a case
+module _ (M : Meaning) (lawful : Lawful M) (case : Case) where
+  abbrev tasks : List Figures
+  tasks = tasks_of case
 
-  -- the ruling with exactly the earlier places above
+  abbrev starts : ℕ → ℕ
+  starts = starts_of case
+
+  fewer_in_case :
+      (judged : ℕ) (above less : ℕ → Bool) →
+      ((q : ℕ) → q < length tasks → (q ≡ judged → ⊥) → less q ≡ true → above q ≡ true) →
+      M tasks starts judged above → M tasks starts judged less
+  fewer_in_case = fewer_above M lawful tasks (case_fair case) starts
+
+  -- the ruling on the place at a position with exactly the earlier places above
   pub asked :
-      (r : Bool) (order : Order) (position judged : ℕ) (above : ℕ → Bool) → order.count ≡ length tasks →
-      position < order.count → judged ≡ place_at order position →
-      ((q : ℕ) → q < order.count → above q ≡ ltb (position_of order q) position) →
-      Rules r (M tasks starts judged above) → Rules r (PassesAt M tasks starts order position)
-  asked r order position judged above whole inside is set rule =
-      let At : ℕ → Type 0 = λ place. Rules r (M tasks starts place above) in
-      rules_same r (M tasks starts (place_at order position) above) (PassesAt M tasks starts order position)
-      (fewer_above (place_at order position) above (up_to order position)
+      (r : Bool) (order : Order) (position : ℕ) (judged : Judged) → judged.case.now ≡ case → judged.place ≡ place_at order position →
+      (above : ℕ → Bool) → has judged.above.now ≡ above → length (places_of order) ≡ length tasks → position < length (places_of order) →
+      ((q : ℕ) → q < length (places_of order) → above q ≡ ltb (position_of order q) position) →
+      Rules r (MeaningAt M judged) → Rules r (PassesAt M case order position)
+  asked r order position judged of is above same whole inside set rule =
+      rules_same r (M tasks starts (place_at order position) above) (PassesAt M case order position)
+      (fewer_in_case (place_at order position) above (up_to order position)
       (λ q held differs chosen.
       let here = set q (omega arith) in
       let apart : position_of order q ≡ position → ⊥ =
       λ same. differs (sym (order.has q (omega arith)).1 ∙ ap (place_at order) same) in
       grind (arith, nat_tests)))
-      (fewer_above (place_at order position) (up_to order position) above
+      (fewer_in_case (place_at order position) (up_to order position) above
       (λ q held differs chosen. let here = set q (omega arith) in grind (arith, nat_tests)))
-      (subst At is rule)
+      (subst (Rules r) (λ i. M (tasks_of (of i)) (starts_of (of i)) (is i) (same i)) rule)
 
   -- a trial of the place at i for the position k; before it the order is as it was at the entry
   module _
-      (i k : ℕ) (entry before after : Order) (same : before ≡ entry) (whole : entry.count ≡ length tasks) (inside : k < length tasks)
+      (i k : ℕ) (entry before after : Order) (same : places_of before ≡ places_of entry) (whole : length (places_of entry) ≡ length tasks) (inside : k < length tasks)
       (left : i ≤ k) (trial : Exchanged i k before after) where
     moved : Exchanged i k entry after
-    moved = let From : Order → Type 0 = λ order. Exchanged i k order after in subst From same trial
+    moved = trial ∙ ap (exchanged i k) same
 
     moved_above : (judged l : ℕ) → k ≤ l → M tasks starts judged (up_to entry l) → M tasks starts judged (up_to after l)
     moved_above judged l later =
-        fewer_above judged (up_to entry l) (up_to after l)
+        fewer_in_case judged (up_to entry l) (up_to after l)
         (λ q held differs chosen.
         sym (up_to_moved i k entry after moved (omega arith) (omega arith) l (omega arith) later q (omega arith)) ∙ chosen)
 
     -- the place on trial passes: it takes the position
     pub fill_kept :
-        (exit : Order) → exit ≡ after → FilledFrom M tasks starts entry (k + 1) → PassesAt M tasks starts after k →
-        FilledFrom M tasks starts exit k
+        (exit : Order) → exit ≡ after → FilledFrom M case entry (k + 1) → PassesAt M case after k →
+        FilledFrom M case exit k
     fill_kept exit kept filled here =
-        let Filled : Order → Type 0 = λ order. FilledFrom M tasks starts order k in
+        let Filled : Order → Type 0 = λ order. FilledFrom M case order k in
         subst Filled (sym kept)
         (record {
-          count = moved.count ∙ whole;
+          count = ap length moved ∙ length-exchanged i k (places_of entry) ∙ whole;
           passes =
               λ l from to.
               elim (cases_eq l k) [
-                | inl is ↦ let At : ℕ → Type 0 = PassesAt M tasks starts after in subst At (sym is) here
+                | inl is ↦ let At : ℕ → Type 0 = PassesAt M case after in subst At (sym is) here
                 | inr not ↦
                     let stays : place_at after l ≡ place_at entry l =
                     place_moved i k entry after moved (omega arith) (omega arith) l ∙ ap (place_at entry) (grind (arith, nat_tests)) in
@@ -132,27 +142,27 @@ module _ (M : Meaning) (lawful : Lawful M) (tasks : List Figures) (fair : AllFai
 
     -- the place on trial does not pass: it gets no with the places that are left
     pub fill_refused :
-        (place : ℕ) → place < length tasks → i ≡ position_of before place → (PassesAt M tasks starts after k → ⊥) →
+        (place : ℕ) → place < length tasks → i ≡ position_of before place → (PassesAt M case after k → ⊥) →
         M tasks starts place (up_to entry k) → ⊥
     fill_refused place held is refused ruling =
         let here : place_at after k ≡ place =
         place_moved i k entry after moved (omega arith) (omega arith) k
         ∙ ap (place_at entry) (grind (arith, nat_tests))
-        ∙ ap (place_at entry) (is ∙ ap (λ order. position_of order place) same)
+        ∙ ap (place_at entry) (is ∙ ap (λ places. position_in places place) same)
         ∙ (entry.has place (omega arith)).1 in
         let At : ℕ → Type 0 = λ p. M tasks starts p (up_to after k) in
         refused (subst At (sym here) (moved_above place k (omega arith) ruling))
 
   -- If no place that is left passes at a position, no order passes: the one of them with the greatest level would.
   pub none_passes :
-      (order : Order) (k : ℕ) → order.count ≡ length tasks → k < length tasks →
+      (order : Order) (k : ℕ) → length (places_of order) ≡ length tasks → k < length tasks →
       ((place : ℕ) → place < length tasks → position_of order place ≤ k → M tasks starts place (up_to order k) → ⊥) →
       NonePasses M tasks starts
   none_passes order k whole inside refused levels are passes =
       let (m, within, most) = greatest (λ l. levels (place_at order l)) k in
       let (held, at) = order.holds m (omega arith) in
       refused (place_at order m) (omega arith) (omega arith)
-      (fewer_above (place_at order m) (λ q. ltb (levels q) (levels (place_at order m))) (up_to order k)
+      (fewer_in_case (place_at order m) (λ q. ltb (levels q) (levels (place_at order m))) (up_to order k)
       (λ q below differs left.
       let to : position_of order q ≤ k = grind (arith, nat_tests) in
       let least = most (position_of order q) to in
@@ -162,10 +172,10 @@ module _ (M : Meaning) (lawful : Lawful M) (tasks : List Figures) (fair : AllFai
       (passes (place_at order m) (omega arith)))
 
   -- all positions are filled: the order passes
-  pub filled_passes : (order : Order) → FilledFrom M tasks starts order 0 → Passes M tasks starts (level_of order)
+  pub filled_passes : (order : Order) → FilledFrom M case order 0 → Passes M tasks starts (level_of order)
   filled_passes order filled place held =
       let (inside, here) = order.has place (omega (arith, filled.count)) in
       let At : ℕ → Type 0 = λ p. M tasks starts p (up_to order (position_of order place)) in
-      fewer_above place (up_to order (position_of order place)) (λ q. ltb (level_of order q) (level_of order place))
+      fewer_in_case place (up_to order (position_of order place)) (λ q. ltb (level_of order q) (level_of order place))
       (λ q below differs smaller. grind (arith, nat_tests))
       (subst At here (filled.passes (position_of order place) (omega arith) (omega (arith, filled.count))))

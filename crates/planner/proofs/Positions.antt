@@ -1,10 +1,18 @@
 -- Positions in a list of places, and what an exchange of two of them leaves.
-use Rattle.std.proofs.Common.{◌≡◌, ℕ, zero, suc, ◌+◌, ◌<◌, ◌≤◌, cond, eqb, List, [], ◌∷◌, length, drop, sym, refl, ap, ◌∙◌, arith}
-use Rattle.std.specs.List.{swap}
+use Rattle.std.proofs.Common.{◌≡◌, ℕ, zero, suc, ◌+◌, ◌<◌, ◌≤◌, ◌==◌, ◌&&◌, cond, eqb, ltb, List, [], ◌∷◌, ◌++◌, length, Some, None, sym, refl, ap, ap₂, ◌∙◌, add-one, arith}
+use Rattle.std.specs.List.{range_with_len, swap}
+use Rattle.std.proofs.lemmas.Bool.{cond_both}
 use Rattle.std.proofs.lemmas.List.Edits.{swapped_from_swap, length-swap}
-use Rattle.std.proofs.lemmas.List.{ext_get_or, at_drop_more, at_drop_all}
+use Rattle.std.proofs.lemmas.List.{ext_get_or}
+use Rattle.std.proofs.lemmas.List.FromFn.{length-range_with_len, get_or-range_with_len}
+use Rattle.std.proofs.lemmas.List.Sums.{position_or_len_is}
 use Rattle.std.proofs.lemmas.Bool.Decides.{nat_tests}
-use Rattle.planner.specs.Positions.{place_in, position_in, LeadsBack}
+use Rattle.planner.specs.Positions.{place_in, position_in, exchanged, LeadsBack}
+
+-- what is answered up to a bound, and only there
+pub answered_below :
+    {A : Type 0} (answer value : A) (k n : ℕ) → Some answer ≡ cond (ltb k n) (Some value) None → (k < n) × (answer ≡ value)
+answered_below answer value k n is = (grind (arith, nat_tests), grind (arith, nat_tests))
 
 -- where the place at a position goes, and comes from, when two positions are exchanged
 abbrev pub other : ℕ → ℕ → ℕ → ℕ
@@ -16,11 +24,9 @@ other_back i j k = grind (arith, nat_tests)
 position_first :
     (at : List ℕ) (place k : ℕ) → k < length at → place_in at k ≡ place →
     ((l : ℕ) → l < k → place_in at l ≡ place → ⊥) → position_in at place ≡ k
-position_first [] place k inside here first = absurd (omega arith)
-position_first (p ∷ at) place zero inside here first = grind (arith, nat_tests)
-position_first (p ∷ at) place (suc k) inside here first =
-    let ih = position_first at place k (omega arith) here (λ l below. first (suc l) (omega arith)) in
-    let differs : p ≡ place → ⊥ = first 0 (omega arith) in grind (arith, nat_tests)
+position_first at place k inside here first =
+    position_or_len_is (λ held. held == place) at k 0 (omega arith)
+    (λ l below. let differs = first l below in grind (arith, nat_tests)) (λ _. grind (arith, nat_tests))
 
 module _ (at : List ℕ) (i j : ℕ) (i_in : i < length at) (j_in : j < length at) where
   pub exchanged_at : (k : ℕ) → place_in (swap at i j) k ≡ place_in at (other i j k)
@@ -80,40 +86,39 @@ module _
       ap (place_in (swap at i j)) position_exchanged ∙ held (other i j (position_in at place)) ∙ back,
     )
 
+-- an exchange keeps how many there are
+pub length-exchanged : (i j : ℕ) (at : List ℕ) → length (exchanged i j at) ≡ length at
+length-exchanged i j at = cond_both (ltb i (length at) && ltb j (length at)) _ _ (λ all. length all ≡ length at) (λ _. length-swap at i j) (λ _. refl)
+
+range_with_len_more : (a n : ℕ) → range_with_len a (suc n) ≡ range_with_len a n ++ (a + n) ∷ []
+range_with_len_more a zero = ap (λ k. k ∷ []) (omega arith)
+range_with_len_more a (suc n) =
+    ap (λ all. a ∷ all) (range_with_len_more (a + 1) n ∙ ap (λ k. range_with_len (a + 1) n ++ k ∷ []) (omega arith))
+
 -- the places in their own order
-abbrev pub count_from : ℕ → ℕ → List ℕ
-count_from a zero = []
-count_from a (suc n) = a ∷ count_from (suc a) n
+pub own_more :
+    (n : ℕ) (before after : List ℕ) → before ≡ range_with_len 0 n → after ≡ before ++ n ∷ [] → after ≡ range_with_len 0 (n + 1)
+own_more n before after own pushed =
+    pushed
+    ∙ ap₂ (λ all k. all ++ k ∷ []) own (omega arith)
+    ∙ sym (range_with_len_more 0 n)
+    ∙ ap (range_with_len 0) (sym (add-one n))
 
-place_from : (a n k : ℕ) → k < n → place_in (count_from a n) k ≡ a + k
-place_from a zero k below = absurd (omega arith)
-place_from a (suc n) zero below = omega arith
-place_from a (suc n) (suc k) below = omega (arith, place_from (suc a) n k (omega arith))
+module _ (n : ℕ) (at : List ℕ) (own : at ≡ range_with_len 0 n) where
+  pub length_own : length at ≡ n
+  length_own = ap length own ∙ length-range_with_len 0 n
 
-length_count : (a n : ℕ) → length (count_from a n) ≡ n
-length_count a zero = refl
-length_count a (suc n) = ap suc (length_count (suc a) n)
+  pub place_own : (k : ℕ) → k < length at → place_in at k ≡ k
+  place_own k below = let is = get_or-range_with_len 0 n k 0 (omega (arith, length_own)) in ap (λ all. place_in all k) own ∙ omega (arith, is)
 
-module _ (n : ℕ) where
-  pub place_count : (k : ℕ) → k < n → place_in (count_from 0 n) k ≡ k
-  place_count k below = omega (arith, place_from 0 n k below)
+  position_own : (place : ℕ) → place < length at → position_in at place ≡ place
+  position_own place below =
+      position_first at place place below (place_own place below) (λ l before same. omega (arith, place_own l (omega arith), same))
 
-  pub position_count : (place : ℕ) → place < n → position_in (count_from 0 n) place ≡ place
-  position_count place below =
-      position_first (count_from 0 n) place place (omega (arith, length_count 0 n)) (place_count place below)
-      (λ l before same. omega (arith, place_count l (omega arith), same))
+  pub own_holds : LeadsBack (length at) (place_in at) (position_in at)
+  own_holds k below =
+      let here = place_own k below in (omega (arith, here), ap (position_in at) here ∙ position_own k below)
 
--- the search for a place from the front on
-module _ (at : List ℕ) (place i : ℕ) where
-  rest : i < length at → position_in (drop i at) place ≡ cond (eqb (place_in at i) place) 0 (1 + position_in (drop (i + 1) at) place)
-  rest inside = at_drop_more (λ left. position_in left place) at i 0 inside
-
-  pub position_here : i < length at → place_in at i ≡ place → i + position_in (drop i at) place ≡ i
-  position_here inside here = let step = rest inside in grind (arith, nat_tests)
-
-  pub position_later :
-      i < length at → (place_in at i ≡ place → ⊥) → i + position_in (drop i at) place ≡ i + 1 + position_in (drop (i + 1) at) place
-  position_later inside differs = let step = rest inside in grind (arith, nat_tests)
-
-  pub position_past : length at ≤ i → i + position_in (drop i at) place ≡ i
-  position_past past = let end = at_drop_all (λ left. position_in left place) at i past in omega arith
+  pub own_has : LeadsBack (length at) (position_in at) (place_in at)
+  own_has place below =
+      let here = position_own place below in (omega (arith, here), ap (place_in at) here ∙ place_own place below)

@@ -1,8 +1,8 @@
 -- Rows of a table with starts, and the case that they form.
-use Rattle.std.proofs.Common.{◌≡◌, ℕ, zero, suc, ◌+◌, ◌<◌, ◌≤◌, List, [], ◌∷◌, ◌++◌, map, length, get_or, take, set, Some, None, sym, refl, ap, ◌∙◌, subst, ap₂, arith}
+use Rattle.std.proofs.Common.{◌≡◌, ℕ, zero, suc, ◌<◌, ◌≤◌, List, [], ◌∷◌, ◌++◌, map, length, get_or, Some, None, sym, refl, ap, ◌∙◌, subst, arith}
 use lib.ListN.{length-map}
 use Rattle.std.specs.List.{AllByRecursion as All}
-use Rattle.std.proofs.lemmas.List.{take_all, take_more, take_more_set, get_or-map}
+use Rattle.std.proofs.lemmas.List.{length-append, get_or-map}
 use Rattle.std.proofs.lemmas.Bool.Decides.{nat_tests}
 use Rattle.refusals.specs.declared.Refusal.{Refusal}
 use Rattle.periods.specs.Listed.{choices_refusal, number_of_choices, choice_of, start_of}
@@ -30,27 +30,12 @@ pub length-timed : (rows : List Row) (starts : ℕ → ℕ) → length (timed ro
 length-timed [] starts = refl
 length-timed (row ∷ rows) starts = ap suc (length-timed rows (λ place. starts (suc place)))
 
-timed_at :
-    (rows : List Row) (starts : ℕ → ℕ) (k : ℕ) (e : Row) (d : Timed) → k < length rows →
-    get_or (timed rows starts) k d ≡ record { figures = (get_or rows k e).figures; start = starts k }
-timed_at [] starts k e d below = absurd (omega arith)
-timed_at (row ∷ rows) starts zero e d below = refl
-timed_at (row ∷ rows) starts (suc k) e d below = timed_at rows (λ place. starts (suc place)) k e d (omega arith)
-
--- rows that are timed from the front on: one more, and all
-module _ (rows : List Row) (starts : ℕ → ℕ) (k : ℕ) (all : List Timed) (front : take k all ≡ take k (timed rows starts)) where
-  pub timed_more :
-      (e : Row) (figures : Figures) → k < length rows → k < length all → figures ≡ (get_or rows k e).figures →
-      take (k + 1) (set all k (record { figures = figures; start = starts k })) ≡ take (k + 1) (timed rows starts)
-  timed_more e figures inside room is =
-      let At : Figures → Timed = λ given. record { figures = given; start = starts k } in
-      take_more_set all k (At figures) room
-      ∙ ap₂ (λ xs x. xs ++ x ∷ []) front (ap At is ∙ sym (timed_at rows starts k e (At figures) inside))
-      ∙ sym (take_more (timed rows starts) k (At figures) (omega (arith, length-timed rows starts)))
-
-  pub timed_all : (n : ℕ) → k ≡ length rows → n ≡ length rows → take n all ≡ timed rows starts
-  timed_all n end is =
-      ap (λ m. take m all) (is ∙ sym end) ∙ front ∙ take_all k (timed rows starts) (omega (arith, length-timed rows starts))
+-- while rows are left to be timed, there is room for one more
+pub room_for_one :
+    (all front : List Timed) (rows : List Row) (starts : List ℕ) → 0 < length rows → length all ≤ most_tasks →
+    front ++ timed rows (start_of starts) ≡ all → length front < most_tasks
+room_for_one all front rows starts some few is =
+    omega (arith, ap length is, length-append front (timed rows (start_of starts)), length-timed rows (start_of starts))
 
 pub timed_figures : (rows : List Row) (starts : ℕ → ℕ) → figures_given (timed rows starts) ≡ figures_at rows
 timed_figures [] starts = refl

@@ -1,7 +1,8 @@
 -- The search over the listed choices of starts, against any lawful judge.
-use Rattle.std.proofs.Common.{◌≡◌, ℕ, ◌<◌, ◌≤◌, cond, ltb, List, map, length, get_or, take, Some, None, sym, refl, ap, ◌∙◌, subst, arith}
+use Rattle.std.proofs.Common.{◌≡◌, ℕ, ◌+◌, ◌<◌, ◌≤◌, ltb, List, [], ◌∷◌, ◌++◌, map, length, get_or, Some, sym, refl, ap, ap₂, ◌∙◌, subst, arith}
 use lib.ListN.{length-map}
-use Rattle.std.proofs.lemmas.List.{take_at}
+use Rattle.std.proofs.lemmas.List.{ext_get_or, get_or-map}
+use Rattle.std.proofs.lemmas.List.FromFn.{length-map-range_with_len, get_or-map-range_with_len, map-range_with_len_more}
 use Rattle.std.proofs.lemmas.Bool.Decides.{nat_tests}
 use Rattle.periods.specs.Listed.{Related, Listed, OneListedChoice, number_of_choices, radices, choice_of, start_of}
 use Rattle.periods.specs.Lists.{in_places, starts_of as starts_of_rank}
@@ -15,9 +16,10 @@ use Rattle.tasks.specs.Timed.{figures_given}
 use Rattle.timeline.specs.Laws.{AllFair}
 use Rattle.judges.specs.Meaning.{Meaning, Lawful, tasks_of, starts_of}
 use Rattle.planner.specs.declared.order.Order.{Order}
+use Rattle.planner.specs.declared.plan.Assignment.{Assignment}
 use Rattle.planner.specs.declared.plan.Plan.{Plan}
-use Rattle.planner.specs.Orders.{Levels, Passes, NonePasses, Ordered, level_of}
-use Rattle.planner.specs.Plans.{Planned, NoPlan, level_at, start_at, timed}
+use Rattle.planner.specs.Orders.{Levels, Passes, NonePasses, Ordered, places_of, level_of}
+use Rattle.planner.specs.Plans.{Planned, NoPlan, given_in, given_to, given_by, count_of, starts_in, level_at, start_at, timed}
 use Rattle.planner.proofs.Filling.{fewer_above, order_levels}
 use Rattle.planner.proofs.Rows.{figures_at, periods_at, timed_figures, timed_start}
 
@@ -28,9 +30,6 @@ module _ (ts listed : List ℕ) (rank : ℕ) (same : listed ≡ ts) where
       (rank < number_of_choices ts) × (starts ≡ in_places (choice_of ts rank))
   rank_listed starts answered =
       let is = answered ∙ ap (λ all. starts_of_rank all rank) same in (grind (arith, nat_tests), grind (arith, nat_tests))
-
-  pub rank_past : None ≡ starts_of_rank listed rank → number_of_choices ts ≤ rank
-  rank_past answered = let is = answered ∙ ap (λ all. starts_of_rank all rank) same in grind (arith, nat_tests)
 
 related_equal : (ts : List ℕ) (s s' : ℕ → ℕ) → ((q : ℕ) → q < length ts → s q ≡ s' q) → Related ts s s'
 related_equal ts s s' equal = record {
@@ -76,6 +75,37 @@ module _ (M : Meaning) (lawful : Lawful M) (tasks : List Figures) (fair : AllFai
       lawful.related tasks starts (start_of (choice_of ts ranked.0)) place _ fair (subst To (sym ranked.2) found.2)
       (passes place held))
 
+-- what one place more is given
+pub given_more :
+    (starts : List ℕ) (order : Order) (place : ℕ) (before after : List Assignment) (task : Assignment) → before ≡ given_to starts order place →
+    task.start ≡ start_of starts place → task.level ≡ level_of order place → after ≡ before ++ task ∷ [] → after ≡ given_to starts order (place + 1)
+given_more starts order place before after task front start level pushed =
+    pushed
+    ∙ ap₂ (λ all last. all ++ last ∷ []) front (ap₂ (λ start level. record { start = start; level = level }) start level)
+    ∙ sym (map-range_with_len_more _ 0 place place (omega arith))
+
+-- what a plan of these starts with the levels of an order gives
+module _ (starts : List ℕ) (order : Order) (plan : Plan) (given : given_in plan ≡ given_by starts order) where
+  count_given : count_of plan ≡ length (places_of order)
+  count_given = ap length given ∙ length-map-range_with_len _ 0 (length (places_of order))
+
+  module _ (q : ℕ) (inside : q < length (places_of order)) where
+    nothing : Assignment
+    nothing = record { start = 0; level = 0 }
+
+    given_at : get_or (given_in plan) q nothing ≡ record { start = start_of starts q; level = level_of order q }
+    given_at =
+        ap (λ all. get_or all q nothing) given
+        ∙ get_or-map-range_with_len _ 0 (length (places_of order)) q q nothing inside (omega arith)
+
+    start_given : start_at plan q ≡ start_of starts q
+    start_given =
+        get_or-map (λ task. task.start) (given_in plan) q nothing 0 (omega (arith, count_given)) ∙ ap (λ (task : Assignment). task.start) given_at
+
+    level_given : level_at plan q ≡ level_of order q
+    level_given =
+        get_or-map (λ task. task.level) (given_in plan) q nothing 0 (omega (arith, count_given)) ∙ ap (λ (task : Assignment). task.level) given_at
+
 -- the case of the rows with the choice of a rank
 module _
     (M : Meaning) (lawful : Lawful M) (rows : List Row) (fair : AllFair (figures_at rows)) (rank : ℕ) (starts : List ℕ)
@@ -98,28 +128,32 @@ module _
       (λ q held. sym (starts_of_lem q held ∙ ap (λ all. start_of all q) chosen ∙ in_places_at choice q)) (λ q held. refl) passes)
 
   pub choice_planned :
-      rank < number_of_choices (periods_at rows) → (order : Order) (plan : Plan) → plan.starts ≡ starts →
-      plan.count ≡ order.count →
-      ((place : ℕ) → level_at plan place ≡ cond (ltb place order.count) (level_of order place) 0) →
-      Ordered M (tasks_of case) (starts_of case) (Some order) → Planned M (figures_at rows) plan
-  choice_planned below order plan kept count levels ordered =
+      rank < number_of_choices (periods_at rows) → (order : Order) (plan : Plan) → given_in plan ≡ given_by starts order →
+      Ordered M case (Some order) → Planned M (figures_at rows) plan
+  choice_planned below order plan given ordered =
       let tasks = figures_at rows in
       let ts = periods_at rows in
       let choice = choice_of ts rank in
-      let whole : order.count ≡ length tasks = ordered.0 ∙ ap length tasks_of_lem in
+      let whole : length (places_of order) ≡ length tasks = ordered.0 ∙ ap length tasks_of_lem in
       let long : length choice ≡ length tasks =
       length_digits (radices 1 ts) rank ∙ length-radices 1 ts ∙ length-map tasks (λ task. task.period) in
+      let count = count_given starts order plan given in
+      let start : (q : ℕ) → q < length tasks → start_at plan q ≡ start_of starts q =
+      λ q held. start_given starts order plan given q (omega arith) in
       let level : (q : ℕ) → q < length tasks → level_of order q ≡ level_at plan q =
-      λ q held. let is = levels q in grind (arith, nat_tests) in
+      λ q held. sym (level_given starts order plan given q (omega arith)) in
+      let chooses : starts_in plan ≡ choice =
+      ext_get_or 0 _ _ (length-map (given_in plan) (λ task. task.start) ∙ count ∙ whole ∙ sym long)
+      (λ q inside.
+      let held : q < length tasks = omega (arith, length-map (given_in plan) (λ task. task.start)) in
+      start q held ∙ ap (λ all. start_of all q) chosen ∙ in_places_at choice q) in
       let For : List Figures → Type 0 = λ all. Passes M all (starts_of case) (level_of order) in
       let Is : List ℕ → Type 0 = Listed ts in
       record {
         count = count ∙ whole;
-        listed =
-            subst Is (sym (ap (take plan.count) (kept ∙ chosen) ∙ take_at choice _ plan.count (omega arith)))
-            ((ranks_list_the_choices ts).listed rank below);
+        listed = subst Is (sym chooses) ((ranks_list_the_choices ts).listed rank below);
         levels = levels_like (length tasks) (level_of order) (level_at plan) level (order_levels (length tasks) order whole);
         passes =
             passes_like M lawful tasks fair (starts_of case) (start_at plan) (level_of order) (level_at plan)
-            (λ q held. starts_of_lem q held ∙ ap (λ all. start_of all q) (sym kept)) level (subst For tasks_of_lem ordered.2);
+            (λ q held. starts_of_lem q held ∙ sym (start q held)) level (subst For tasks_of_lem ordered.2);
       }

@@ -1,10 +1,11 @@
 -- Orders of tasks, and when one passes a judge.
-use Rattle.std.specs.Prelude.{◌≡◌, ℕ, ◌+◌, ◌<◌, ◌≤◌, cond, ◌&&◌, List, length, Some, None, Option, nat_lt}
-use Rattle.std.specs.List.{swap}
+use Rattle.std.specs.Prelude.{◌≡◌, ℕ, ◌+◌, ◌<◌, ◌≤◌, List, length, Some, None, Option, nat_lt}
+use Rattle.short_list.specs.Items.{items_of}
+use Rattle.tasks.specs.declared.case.Case.{Case}
 use Rattle.tasks.specs.declared.figures.Figures.{Figures}
-use Rattle.judges.specs.Meaning.{Meaning}
+use Rattle.judges.specs.Meaning.{Meaning, tasks_of, starts_of}
 use Rattle.planner.specs.declared.order.Order.{Order}
-use Rattle.planner.specs.Positions.{place_in, position_in}
+use Rattle.planner.specs.Positions.{place_in, position_in, exchanged}
 
 -- Levels of the places below n: each from 1, the highest priority, to n, and no two alike.
 pub record Levels (n : ℕ) (levels : ℕ → ℕ) : Type 0 where
@@ -26,25 +27,27 @@ pub record PassingOrder (M : Meaning) (tasks : List Figures) (starts levels : �
 abbrev pub NonePasses : Meaning → List Figures → (ℕ → ℕ) → Type 0
 NonePasses M tasks starts = (levels : ℕ → ℕ) → Levels (length tasks) levels → Passes M tasks starts levels → ⊥
 
--- an order as a value: the place at a position, the position of a place, and its level, the next number
+-- an order as a value: its places, from the highest priority down
+abbrev pub places_of : Order → List ℕ
+places_of order = items_of order.places
+
+-- the place at a position, the position of a place, and its level, the next number
 abbrev pub place_at : Order → ℕ → ℕ
-place_at order position = place_in order.at position
+place_at order position = place_in (places_of order) position
 
 abbrev pub position_of : Order → ℕ → ℕ
-position_of order place = position_in order.at place
+position_of order place = position_in (places_of order) place
 
 abbrev pub level_of : Order → ℕ → ℕ
 level_of order place = position_of order place + 1
 
--- the places at two positions change; positions past the last hold no task, and then nothing changes
-pub record Exchanged (first second : ℕ) (before after : Order) : Type 0 where
-  pub count : after.count ≡ before.count
-  pub at :
-      after.at
-      ≡ cond (nat_lt first before.count && nat_lt second before.count) (swap before.at first second) before.at
+-- the places at two positions change
+abbrev pub Exchanged : ℕ → ℕ → Order → Order → Type 0
+Exchanged first second before after = places_of after ≡ exchanged first second (places_of before)
 
--- an order that passes with these starts, or none does
-abbrev pub Ordered : Meaning → List Figures → (ℕ → ℕ) → Option Order → Type 0
-Ordered M tasks starts (Some order) =
-    (order.count ≡ length tasks) × Levels (length tasks) (level_of order) × Passes M tasks starts (level_of order)
-Ordered M tasks starts None = NonePasses M tasks starts
+-- an order that passes with the starts of a case, or none does
+abbrev pub Ordered : Meaning → Case → Option Order → Type 0
+Ordered M case (Some order) =
+    (length (places_of order) ≡ length (tasks_of case)) × Levels (length (tasks_of case)) (level_of order)
+    × Passes M (tasks_of case) (starts_of case) (level_of order)
+Ordered M case None = NonePasses M (tasks_of case) (starts_of case)

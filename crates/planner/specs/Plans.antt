@@ -1,5 +1,7 @@
 -- Plans of a table: starts and levels that pass a judge.
-use Rattle.std.specs.Prelude.{◌≡◌, ℕ, suc, ◌<◌, ◌≤◌, ◌⊎◌, List, [], ◌∷◌, length, take, Some, None, Ok, Err, Option, Result, slice_index}
+use Rattle.std.specs.Prelude.{◌≡◌, ℕ, suc, ◌<◌, ◌≤◌, ◌⊎◌, List, [], ◌∷◌, map, length, Some, None, Ok, Err, Option, Result, slice_index}
+use Rattle.std.specs.List.{range_with_len}
+use Rattle.short_list.specs.Items.{items_of}
 use Rattle.refusals.specs.declared.Refusal.{Refusal}
 use Rattle.refusals.specs.declared.Refusal.TheVariants.{Overload, NoPlan as NoPlanRefusal}
 use Rattle.periods.specs.Listed.{Listed, choices_refusal, start_of}
@@ -9,19 +11,38 @@ use Rattle.tasks.specs.declared.rows.Row.{Row}
 use Rattle.tasks.specs.declared.rows.Timed.{Timed}
 use Rattle.tasks.specs.Loads.{load, periods_in}
 use Rattle.judges.specs.Meaning.{Meaning}
+use Rattle.planner.specs.declared.order.Order.{Order}
+use Rattle.planner.specs.declared.plan.Assignment.{Assignment}
 use Rattle.planner.specs.declared.plan.Plan.{Plan}
-use Rattle.planner.specs.Orders.{Levels, Passes, PassingOrder, NonePasses}
+use Rattle.planner.specs.Orders.{Levels, Passes, PassingOrder, NonePasses, places_of, level_of}
+
+-- what a plan gives each task, by place, and how many tasks it has
+abbrev pub given_in : Plan → List Assignment
+given_in plan = items_of plan.given
+
+abbrev pub count_of : Plan → ℕ
+count_of plan = length (given_in plan)
+
+-- the starts and the levels of all tasks
+abbrev pub starts_in : Plan → List ℕ
+starts_in plan = map (λ task. task.start) (given_in plan)
+
+abbrev pub levels_in : Plan → List ℕ
+levels_in plan = map (λ task. task.level) (given_in plan)
 
 -- the start and the level of a place
 abbrev pub start_at : Plan → ℕ → ℕ
-start_at plan place = slice_index plan.starts place
+start_at plan place = slice_index (starts_in plan) place
 
 abbrev pub level_at : Plan → ℕ → ℕ
-level_at plan place = slice_index plan.levels place
+level_at plan place = slice_index (levels_in plan) place
 
--- the starts of all tasks
-abbrev pub starts_in : Plan → List ℕ
-starts_in plan = take plan.count plan.starts
+-- starts by place with the levels of an order: of the first places, and of all
+abbrev pub given_to : List ℕ → Order → ℕ → List Assignment
+given_to starts order n = map (λ place. record { start = start_of starts place; level = level_of order place }) (range_with_len 0 n)
+
+abbrev pub given_by : List ℕ → Order → List Assignment
+given_by starts order = given_to starts order (length (places_of order))
 
 -- a listed choice of starts, and an order that passes with it
 pub record PassingPlan (M : Meaning) (tasks : List Figures) (starts : List ℕ) (levels : ℕ → ℕ) : Type 0 where
@@ -30,7 +51,7 @@ pub record PassingPlan (M : Meaning) (tasks : List Figures) (starts : List ℕ) 
 
 -- the starts of a plan are a listed choice, and its levels pass with them
 pub record Planned (M : Meaning) (tasks : List Figures) (plan : Plan) : Type 0 where
-  pub count : plan.count ≡ length tasks
+  pub count : count_of plan ≡ length tasks
   pub listed : Listed (periods_in tasks) (starts_in plan)
   pub levels : Levels (length tasks) (level_at plan)
   pub passes : Passes M tasks (start_at plan) (level_at plan)

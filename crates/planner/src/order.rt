@@ -1,20 +1,17 @@
 // An order of tasks.
-ghost use Rattle.std.specs.Prelude.{◌≡◌, ◌≤◌, length};
-ghost use Rattle.periods.specs.Multiples.{most_tasks};
+ghost use Rattle.std.specs.Prelude.{length};
+ghost use Rattle.short_list.specs.Items.{items_of};
 ghost use Rattle.planner.specs.Positions.{place_in, position_in, LeadsBack};
 
 use periods::MOST_TASKS;
+use short_list::ShortList;
 
 mod calls;
 
-// The place at each position, from the highest priority down. The first `count` positions hold the first `count` places,
-// each once.
+// The places 0 to the last, each once, from the highest priority down.
 #[derive(Clone, Copy)]
 pub struct Order {
-    at: [usize; MOST_TASKS],
-    count: usize,
-    ghost width: { length at ≡ most_tasks },
-    ghost few: { count ≤ most_tasks },
-    ghost holds: { LeadsBack count (place_in at) (position_in at) },
-    ghost has: { LeadsBack count (position_in at) (place_in at) },
+    places: ShortList<usize, MOST_TASKS>,
+    ghost holds: { LeadsBack (length (items_of places)) (place_in (items_of places)) (position_in (items_of places)) },
+    ghost has: { LeadsBack (length (items_of places)) (position_in (items_of places)) (place_in (items_of places)) },
 }

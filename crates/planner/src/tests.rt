@@ -25,20 +25,10 @@ fn positions_past_the_last_stay(rt: HostRuntime) {
     assert_eq!(rt; order.level(7), Some(8));
 }
 
-fn task(work: u16, period: u16, deadline: u16) -> Figures {
-    Figures {
-        work,
-        period,
-        deadline,
-    }
-}
-
 // The plan of a table of these tasks.
 fn planned<J: Judge>(judge: &J, tasks: &[Figures]) -> Result<Plan, Refusal> {
     let mut table = Table::new();
-    let mut id: u8 = 0;
-    for figures in tasks {
-        id = id.saturating_add(1);
+    for (id, figures) in (1..=u8::MAX).zip(tasks) {
         table.enter(id, *figures)?;
     }
     plan_for(judge, &table)
@@ -50,11 +40,21 @@ fn refused<J: Judge>(judge: &J, tasks: &[Figures]) -> Option<Refusal> {
 
 #[test]
 fn starts_apart_where_the_common_start_fails(rt: HostRuntime) -> Result<(), Fail> {
-    let plan = planned(&Tick, &[task(1, 2, 1), task(1, 2, 1)])?;
+    let plan = planned(&Tick, &[Figures::new(1, 2, 1), Figures::new(1, 2, 1)])?;
     assert_eq!(rt; (plan.start(0), plan.start(1)), (Some(0), Some(1)));
-    let plan = planned(&Tick, &[task(1, 2, 1), task(2, 4, 3)])?;
+    let plan = planned(&Tick, &[Figures::new(1, 2, 1), Figures::new(2, 4, 3)])?;
     assert_eq!(rt; (plan.start(0), plan.start(1)), (Some(0), Some(1)));
-    assert!(rt; planned(&Tick, &[task(1, 5, 5), task(1, 3, 1), task(1, 3, 1)]).is_ok());
+    assert!(rt;
+        planned(
+            &Tick,
+            &[
+                Figures::new(1, 5, 5),
+                Figures::new(1, 3, 1),
+                Figures::new(1, 3, 1)
+            ]
+        )
+        .is_ok()
+    );
     Ok(())
 }
 
@@ -62,18 +62,22 @@ fn starts_apart_where_the_common_start_fails(rt: HostRuntime) -> Result<(), Fail
 fn says_why_there_is_no_plan(rt: HostRuntime) {
     assert_eq!(rt; refused(&Tick, &[]), Some(Refusal::NoTask));
     assert_eq!(rt;
-        refused(&Tick, &[task(1, 2, 1), task(1, 3, 1)]),
+        refused(&Tick, &[Figures::new(1, 2, 1), Figures::new(1, 3, 1)]),
         Some(Refusal::NoPlan)
     );
     assert_eq!(rt;
-        refused(&Tick, &[task(1, 2, 1), task(2, 4, 2)]),
+        refused(&Tick, &[Figures::new(1, 2, 1), Figures::new(2, 4, 2)]),
         Some(Refusal::NoPlan)
     );
     assert_eq!(rt;
-        refused(&Tick, &[task(2, 2, 2), task(1, 3, 3)]),
+        refused(&Tick, &[Figures::new(2, 2, 2), Figures::new(1, 3, 3)]),
         Some(Refusal::Overload)
     );
-    let three = [task(3, 8, 8), task(6, 12, 12), task(1, 12, 12)];
+    let three = [
+        Figures::new(3, 8, 8),
+        Figures::new(6, 12, 12),
+        Figures::new(1, 12, 12),
+    ];
     assert_eq!(rt; refused(&Tick, &three), None);
     assert_eq!(rt; refused(&WorstStart, &three), Some(Refusal::NoPlan));
 }

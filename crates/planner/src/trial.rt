@@ -1,9 +1,9 @@
 // A trial of an order: two of its places exchanged, until the trial is kept or ends.
 ghost use Rattle.std.specs.Prelude.{◌≡◌, ◌<◌, length};
-ghost use Rattle.judges.specs.Meaning.{Rules, tasks_of, starts_of};
+ghost use Rattle.judges.specs.Meaning.{Rules, tasks_of};
 ghost use Rattle.planner.specs.declared.order.Order.{Order as AnOrder};
 ghost use Rattle.planner.specs.Filling.{PassesAt};
-ghost use Rattle.planner.specs.Orders.{Exchanged};
+ghost use Rattle.planner.specs.Orders.{Exchanged, places_of};
 
 use crate::order::Order;
 use judges::Judge;
@@ -33,12 +33,12 @@ impl<'a> Trial<'a> {
 
     // Whether the place on trial passes with those before it above.
     pub(crate) fn passes<J: Judge>(&self, judge: &J, case: &Case) -> bool
-        requires inside { self.now.filled < self.now.order.now.count }
-        requires whole { self.now.order.now.count ≡ length (tasks_of case.now) }
-        ensures { Rules result (PassesAt (J.Judge.meaning judge.now) (tasks_of case.now) (starts_of case.now) self.now.order.now self.now.filled) }
+        requires inside { self.now.filled < length (places_of self.now.order.now) }
+        requires whole { length (places_of self.now.order.now) ≡ length (tasks_of case.now) }
+        ensures { Rules result (PassesAt (J.Judge.meaning judge.now) case.now self.now.order.now self.now.filled) }
     {
-        let judged = self.order.place(self.filled);
-        judge.rule(case, judged, &self.order.earlier(self.filled))
+        let place = self.order.place_at(self.filled).unwrap();
+        judge.rule(case.judged(place, &self.order.earlier(self.filled)))
     }
 
     // Ends the trial with the places exchanged.
@@ -56,7 +56,7 @@ impl<'a> Trial<'a> {
 // A trial that ends without being kept leaves the former order, on every way out.
 impl Drop for Trial<'_> {
     fn drop(self)
-        ensures { (former : AnOrder) → Exchanged self.entry.tried self.entry.filled former self.entry.order.now → self.exit.0.now ≡ former }
+        ensures { (former : AnOrder) → Exchanged self.entry.tried self.entry.filled former self.entry.order.now → places_of self.exit.0.now ≡ places_of former }
     {
         let Trial {
             order,

@@ -1,19 +1,26 @@
-// Why a call was refused, and the number under which the shop knows it.
+// Why a call was refused, in words and by the number under which the shop knows it.
 #![tactic(auto)]
 
 ghost use Rattle.std.specs.Prelude.{◌≡◌};
 ghost use Rattle.refusals.specs.Numbers.{fault_number, refusal_number};
 ghost use Rattle.refusals.specs.declared.Refusal.TheVariants.{Figures};
 
+use thiserror::Error;
+
 // What can be wrong with the figures of one task, in the order of their numbers.
-#[derive(Clone, Copy, PartialEq, Eq, Debug)]
+#[derive(Clone, Copy, PartialEq, Eq, Debug, Error)]
 pub enum TaskFault {
+    #[error("a task has no work")]
     NoWork,
+    #[error("a period is above 2,000")]
     LongPeriod,
+    #[error("a deadline passes its period")]
     LateDeadline,
+    #[error("the work passes its deadline")]
     LongWork,
 }
 
+// Each kind has a method of its own for its number, and no trait joins them: no code takes any kind that has a number.
 impl TaskFault {
     pub fn number(self) -> u8
         ensures { result ≡ fault_number self }
@@ -28,22 +35,37 @@ impl TaskFault {
 }
 
 // What a call answers in place of doing its work.
-#[derive(Clone, Copy, PartialEq, Eq, Debug)]
+#[derive(Clone, Copy, PartialEq, Eq, Debug, Error)]
 pub enum Refusal {
+    #[error("an id is at least 1")]
     ZeroId,
+    #[error("a task with this id stands already")]
     StandingId,
+    #[error("no task has this id")]
     UnknownId,
+    #[error(transparent)]
     Figures(TaskFault),
+    #[error("eight tasks stand already")]
     TooManyTasks,
+    #[error("a margin is above 100 percent")]
     LargeMargin,
+    #[error("no task stands")]
     NoTask,
+    #[error("the common period is above 10,000")]
     LongCommonPeriod,
+    #[error("more than 10,000 choices are listed")]
     TooManyChoices,
+    #[error("the load is above the common period")]
     Overload,
+    #[error("no order passes the judge, whatever the starts")]
     NoPlan,
+    #[error("no plan stands")]
     NoStandingPlan,
+    #[error("a list or a buffer is too short")]
     ListTooShort,
+    #[error("a window ends before it begins, or too late")]
     WrongWindow,
+    #[error("a start is not below its period")]
     LateStart,
 }
 
@@ -71,6 +93,7 @@ impl Refusal {
     }
 }
 
+// Written out: the clauses above name the refusal that `?` makes, and a derived conversion has no contract.
 impl From<TaskFault> for Refusal {
     ghost from_gives = { λ wrong r. r ≡ Figures wrong };
 

@@ -1,19 +1,20 @@
 -- How a processor stands on the endless timeline of some demands, and what it does when it advances.
-use Rattle.std.specs.Prelude.{◌≡◌, ℕ, ◌+◌, ◌<◌, ◌≤◌, min, true, cond, ◌⊎◌, Some, None, Option, ◌==◌, slice_index}
+use Rattle.std.specs.Prelude.{◌≡◌, ℕ, ◌+◌, ◌<◌, ◌≤◌, min, true, cond, ◌⊎◌, Some, None, Option, ◌==◌}
 use Rattle.tasks.specs.declared.figures.Figures.{Figures}
 use Rattle.timeline.specs.Processor.{Demands, owing, runs, Idle}
 use Rattle.timeline.specs.Requests.{requested}
 use Rattle.runner.specs.declared.processor.Processor.{Processor}
 use Rattle.runner.specs.declared.span.Span.{Span}
 use Rattle.runner.specs.Levels.{last_tick}
+use Rattle.runner.specs.Processor.{count_of, work_on, period_on, next_on, left_on}
 
 -- The processor stands at its tick of the timeline of these demands: it knows what each level owes, and from this
 -- tick on each level demands what its task requests, the next time at `next`.
 pub record Stands (D : Demands) (p : Processor) : Type 0 where
-  pub owes : (level : ℕ) → owing D p.tick level ≡ slice_index p.left level
+  pub owes : (level : ℕ) → owing D p.tick level ≡ left_on p level
   pub coming :
       (level tick : ℕ) → p.tick ≤ tick →
-      D level tick ≡ requested (slice_index p.work level) (slice_index p.period level) (slice_index p.next level) tick
+      D level tick ≡ requested (work_on p level) (period_on p level) (next_on p level) tick
 
 -- no level demands anything
 abbrev pub nothing : Demands
@@ -26,9 +27,9 @@ with_level D level demand l tick = cond (l == level) (demand tick) (D l tick)
 -- one more task, on the level below those that there are
 pub record Added (p : Processor) (figures : Figures) (start : ℕ) (q : Processor) : Type 0 where
   pub tick : q.tick ≡ p.tick
-  pub count : q.count ≡ p.count + 1
+  pub count : count_of q ≡ count_of p + 1
   pub stands :
-      (D : Demands) → Stands D p → Stands (with_level D p.count (requested figures.work figures.period start)) q
+      (D : Demands) → Stands D p → Stands (with_level D (count_of p) (requested figures.work figures.period start)) q
 
 -- who runs in a tick: a level, or nobody
 abbrev pub RunsAt : Demands → Option ℕ → ℕ → Type 0
@@ -37,18 +38,18 @@ RunsAt D None tick = Idle D tick
 
 -- the same tasks on the same levels
 pub record SameTasks (p q : Processor) : Type 0 where
-  pub count : q.count ≡ p.count
-  pub work : q.work ≡ p.work
-  pub period : q.period ≡ p.period
+  pub count : count_of q ≡ count_of p
+  pub work : (level : ℕ) → work_on q level ≡ work_on p level
+  pub period : (level : ℕ) → period_on q level ≡ period_on p level
 
 -- the work of the level that ran has ended
 abbrev pub WorkEnded : Option ℕ → Processor → Type 0
-WorkEnded (Some level) q = slice_index q.left level ≡ 0
+WorkEnded (Some level) q = left_on q level ≡ 0
 WorkEnded None q = ⊥
 
 -- a request falls at the tick at which the processor stands
 abbrev pub RequestFalls : Processor → Type 0
-RequestFalls q = (level : ℕ) × (level < q.count) × (slice_index q.next level ≡ q.tick)
+RequestFalls q = (level : ℕ) × (level < count_of q) × (next_on q level ≡ q.tick)
 
 -- The processor ran from p to q, and the span tells who ran. It ends no sooner than at an event.
 pub record Ran (p : Processor) (end : ℕ) (s : Span) (q : Processor) : Type 0 where
@@ -57,7 +58,7 @@ pub record Ran (p : Processor) (end : ℕ) (s : Span) (q : Processor) : Type 0 w
   pub to : q.tick ≡ s.from + s.length
   pub within : q.tick ≤ end
   pub tasks : SameTasks p q
-  pub known : (level : ℕ) → s.runs ≡ Some level → level < p.count
+  pub known : (level : ℕ) → s.runs ≡ Some level → level < count_of p
   pub event : (q.tick ≡ end) ⊎ (RequestFalls q ⊎ WorkEnded s.runs q)
   pub stands : (D : Demands) → Stands D p → Stands D q
   pub runs : (D : Demands) → Stands D p → (tick : ℕ) → s.from ≤ tick → tick < q.tick → RunsAt D s.runs tick

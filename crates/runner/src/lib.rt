@@ -1,12 +1,15 @@
 // The processor that runs tasks on levels, from event to event: a request, or an end of work.
 #![tactic(auto)]
 
+mod level;
+mod not_taken;
 mod processor;
 mod runs;
 mod span;
 #[cfg(test)]
 mod tests;
 
+pub use not_taken::NotTaken;
 pub use processor::Processor;
 pub use runs::runs_at;
 pub use span::Span;

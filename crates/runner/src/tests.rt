@@ -1,21 +1,17 @@
-use crate::{LAST_TICK, Processor, Span, runs_at};
+use crate::{LAST_TICK, NotTaken, Processor, Span, runs_at};
 use std::test::Fail;
 use tasks::{Figures, Task};
 
 fn task(work: u16, period: u16) -> Result<Task, Fail> {
-    Ok(Task::form(Figures {
-        work,
-        period,
-        deadline: period,
-    })?)
+    Ok(Task::form(Figures::new(work, period, period))?)
 }
 
 #[test]
 fn runs_the_highest_level_with_work(rt: HostRuntime) -> Result<(), Fail> {
     let mut processor = Processor::new();
-    assert!(rt; processor.add(task(3, 8)?, 0));
-    assert!(rt; processor.add(task(6, 12)?, 0));
-    assert!(rt; processor.add(task(1, 12)?, 10));
+    assert_eq!(rt; processor.add(task(3, 8)?, 0), Ok(()));
+    assert_eq!(rt; processor.add(task(6, 12)?, 0), Ok(()));
+    assert_eq!(rt; processor.add(task(1, 12)?, 10), Ok(()));
     assert_eq!(rt; runs_at(processor, 22), Some(Some(2)));
     assert_eq!(rt; runs_at(processor, 23), Some(None));
     let spans = [
@@ -43,9 +39,12 @@ fn runs_the_highest_level_with_work(rt: HostRuntime) -> Result<(), Fail> {
 #[test]
 fn stops_at_the_last_tick(rt: HostRuntime) -> Result<(), Fail> {
     let mut processor = Processor::new();
-    assert!(rt; !processor.add(task(1, 2)?, LAST_TICK + 1));
+    assert_eq!(rt;
+        processor.add(task(1, 2)?, LAST_TICK + 1),
+        Err(NotTaken::LateStart)
+    );
     assert!(rt; processor.advance(7).is_some());
-    assert!(rt; !processor.add(task(1, 2)?, 8));
+    assert_eq!(rt; processor.add(task(1, 2)?, 8), Err(NotTaken::HasRun));
     assert!(rt; processor.advance(u32::MAX).is_some());
     assert_eq!(rt; processor.tick(), LAST_TICK);
     assert_eq!(rt; processor.advance(u32::MAX), None);

@@ -1,43 +1,44 @@
--- Reading a number digit by digit.
-use Rattle.std.proofs.Common.{◌≡◌, ℕ, ◌+◌, ◌-◌, ◌*◌, ◌<◌, ◌≤◌, true, false, cond, ◌&&◌, eqb, leb, List, [], ◌∷◌, length, get_or, drop, Some, None, Option, sym, ap, ◌∙◌, arith}
+-- Reading a number.
+use Rattle.std.proofs.Common.{◌≡◌, ℕ, ◌<◌, ◌^◌, true, false, leb, Ok, Err, List, [], ◌∷◌, length, None, Option, Result, sym, refl, ap, ◌∙◌, ◌&&◌, arith}
 use Rattle.std.specs.Char.{is_ascii_digit}
-use Rattle.std.specs.Str.{all_ascii_digits}
-use Rattle.std.proofs.lemmas.List.{at_drop_more, at_drop_all}
+use Rattle.std.specs.List.{list_all}
+use Rattle.std.specs.Str.{all_ascii_digits, IsUtf8}
+use Rattle.std.specs.Str.Parse.{ParsesUnsigned}
+use Rattle.std.proofs.lemmas.Fmt.{IsAscii-from_digits}
+use Rattle.std.proofs.lemmas.Str.{IsUtf8-from_ascii}
+use Rattle.std.specs.Result.{OkIff, MatchResult}
+use Rattle.std.specs.Bool.{then_some}
 use Rattle.std.proofs.lemmas.Bool.Decides.{nat_tests}
-use Rattle.script.specs.Numerals.{value_after, number_up_to}
+use Rattle.std.proofs.lemmas.Str.Parse.{IsNumeralModel, numerals_by_fold, tells_all_ascii_digits, parse_digits}
+use Rattle.script.specs.Numerals.{value, value_after, number_up_to}
 
--- the digits still to come, after those of n
-abbrev pub read_after : ℕ → ℕ → List ℕ → Option ℕ
-read_after limit n cs = cond (all_ascii_digits cs && leb (value_after n cs) limit) (Some (value_after n cs)) None
+-- the words of this crate for digits and what they write are those of the library
+pub numerals : IsNumeralModel (λ word. all_ascii_digits word ≡ true) value
+numerals = numerals_by_fold _ tells_all_ascii_digits value_after (record { empty = λ n. refl; more = λ n c cs k. refl })
 
--- digits more make no number less
-value_after_ge : (n : ℕ) (cs : List ℕ) → n ≤ value_after n cs
-value_after_ge n [] = omega arith
-value_after_ge n (c ∷ cs) = omega (arith, value_after_ge (n * 10 + (c - 48)) cs)
+-- the library's test of all bytes
+digits_is : (word : List ℕ) → list_all is_ascii_digit word ≡ all_ascii_digits word
+digits_is [] = refl
+digits_is (b ∷ word) = ap (λ rest. is_ascii_digit b && rest) (digits_is word)
 
--- a digit in front is read
-read_digit : (limit n c : ℕ) (cs : List ℕ) → is_ascii_digit c ≡ true → read_after limit n (c ∷ cs) ≡ read_after limit (n * 10 + (c - 48)) cs
-read_digit limit n c cs is = grind (arith, nat_tests)
+-- a byte is no digit
+pub no_digits : (limit : ℕ) (word : List ℕ) → list_all is_ascii_digit word ≡ false → None ≡ number_up_to limit word
+no_digits limit word e = let is = digits_is word in grind (arith, nat_tests)
 
--- of what stands from i on: no digit, ..
-pub stops_at : (limit n i : ℕ) (word : List ℕ) → i < length word → is_ascii_digit (get_or word i 0) ≡ false → read_after limit n (drop i word) ≡ None
-stops_at limit n i word inside other = at_drop_more (read_after limit n) word i 0 inside ∙ grind (arith, nat_tests)
+-- digits are a text
+pub digits_are_text : (word : List ℕ) → list_all is_ascii_digit word ≡ true → IsUtf8 word
+digits_are_text word e = IsUtf8-from_ascii word (IsAscii-from_digits word (numerals.to word (sym (digits_is word) ∙ e)))
 
--- .. or a digit, of the value d
-pub digit_more : (limit n i d : ℕ) (word : List ℕ) → i < length word → is_ascii_digit (get_or word i 0) ≡ true → d ≡ get_or word i 0 - 48 → read_after limit n (drop i word) ≡ read_after limit (n * 10 + d) (drop (i + 1) word)
-digit_more limit n i d word inside is e =
-    at_drop_more (read_after limit n) word i 0 inside
-    ∙ read_digit limit n (get_or word i 0) (drop (i + 1) word) is
-    ∙ ap (λ m. read_after limit (n * 10 + m) (drop (i + 1) word)) (sym e)
-
--- a number past the limit stays past it
-pub past_limit : (limit n : ℕ) (cs : List ℕ) → limit < n → read_after limit n cs ≡ None
-past_limit limit n cs past = let ge = value_after_ge n cs in grind (arith, nat_tests)
-
--- all digits are read
-pub all_read : (limit n i : ℕ) (word : List ℕ) → length word ≤ i → n ≤ limit → read_after limit n (drop i word) ≡ Some n
-all_read limit n i word end within = at_drop_all (read_after limit n) word i end ∙ grind (arith, nat_tests)
-
--- a word that is not empty is read from its front
-pub read_whole : (limit : ℕ) (word : List ℕ) → eqb (length word) 0 ≡ false → read_after limit 0 word ≡ number_up_to limit word
-read_whole limit word some = grind (arith, nat_tests)
+-- what the parse reads, where it is at most the limit
+pub read_is :
+    {E : Type 0} (limit : ℕ) (word : List ℕ) (r : Result ℕ E) (o : Option ℕ) → limit < 2 ^ 32 → list_all is_ascii_digit word ≡ true →
+    ParsesUnsigned 32 10 word r → MatchResult r (λ n. o ≡ then_some (leb n limit) n) (λ _. o ≡ None) → o ≡ number_up_to limit word
+read_is {E} limit word r o fits all reads kept = go r (parse_digits numerals 32 word r reads (sym (digits_is word) ∙ all)) kept
+  where
+    go :
+        (r : Result ℕ E) → OkIff r ((0 < length word) × (value word < 2 ^ 32)) (value word) →
+        MatchResult r (λ n. o ≡ then_some (leb n limit) n) (λ _. o ≡ None) → o ≡ number_up_to limit word
+    go (Ok n) told kept = let some = told.0.0 in let same = told.1 in let is = digits_is word in grind (arith, nat_tests)
+    go (Err e) told kept =
+        let none : 0 < length word → value word < 2 ^ 32 → ⊥ = λ some small. told (some, small) in
+        let is = digits_is word in grind (arith, nat_tests)

@@ -1,6 +1,6 @@
 // A line taken apart into words.
-ghost use Rattle.std.specs.Prelude.{◌≡◌, ◌++◌, IfOk, OnOk};
-ghost use Rattle.script.specs.Words.{without_last, without_end, before_comment, blank, single, words_of, Word, texts};
+ghost use Rattle.std.specs.Prelude.{◌≡◌, ◌==◌, position, IfOk};
+ghost use Rattle.script.specs.Words.{without_last, without_end, before_comment, blank, words_of, Word, texts};
 ghost use Rattle.std.specs.List.{AllByRecursion};
 
 use std::alloc::{AllocError, Global};
@@ -9,10 +9,7 @@ use std::alloc::{AllocError, Global};
 fn without_last(text: &[u8], end: u8) -> &[u8]
     ensures { result.now ≡ without_last end text.now }
 {
-    match text {
-        [front @ .., last] if *last == end => front,
-        _ => text,
-    }
+    text.strip_suffix(&[end]).unwrap_or(text)
 }
 
 // The line without its newline and a carriage return before it.
@@ -22,16 +19,21 @@ fn without_end(line: &[u8]) -> &[u8]
     without_last(without_last(line, b'\n'), b'\r')
 }
 
+// Where the first `#` stands.
+fn hash(text: &[u8]) -> Option<usize>
+    ensures { result ≡ position (λ b. b == 35) text.now }
+{
+    text.iter().position(|b| *b == b'#')
+}
+
 // What stands before the first `#`.
 fn before_comment(text: &[u8]) -> &[u8]
     ensures { result.now ≡ before_comment text.now }
 {
-    for (i, b) in text.iter().enumerate() {
-        if *b == b'#' {
-            return &text[0..i];
-        }
+    match hash(text) {
+        Some(comment) => &text[..comment],
+        None => text,
     }
-    text
 }
 
 // Words are parted by spaces and tabs.
@@ -41,30 +43,13 @@ fn is_blank(b: u8) -> bool
     b == b' ' || b == b'\t'
 }
 
-// Adds the word, unless it is empty.
-fn add<'a>(words: &mut Vec<&'a [u8]>, word: &'a [u8]) -> Result<(), AllocError>
-    ensures { OnOk result (texts words.new.items ≡ texts words.old.items ++ single word.now) }
-{
-    if !word.is_empty() {
-        words.push(word)?;
-    }
-    Ok(())
-}
-
 // The words of a line, whatever bytes it holds; with its end or without.
 pub fn words<'a>(heap: Global, line: &'a [u8]) -> Result<Vec<&'a [u8]>, AllocError>
     ensures exact { IfOk result (λ v. texts v.items ≡ words_of line.now) }
     ensures clean { IfOk result (λ v. AllByRecursion Word (texts v.items)) }
 {
-    let text = before_comment(without_end(line));
-    let mut words = Vec::new(heap);
-    let mut start = 0;
-    for (i, b) in text.iter().enumerate() {
-        if is_blank(*b) {
-            add(&mut words, &text[start..i])?;
-            start = i + 1;
-        }
-    }
-    add(&mut words, &text[start..])?;
-    Ok(words)
+    before_comment(without_end(line))
+        .split(|b| is_blank(*b))
+        .filter(|word| !word.is_empty())
+        .collect(heap)
 }

@@ -1,23 +1,26 @@
 // Numbers as a script writes them.
 ghost use Rattle.std.specs.Prelude.{◌≡◌};
+ghost use Rattle.std.specs.Char.{is_ascii_digit};
+ghost use Rattle.std.specs.List.{list_all};
 ghost use Rattle.script.specs.Numerals.{number_up_to};
+
+// Whether every byte is a digit.
+fn are_digits(word: &[u8]) -> bool
+    ensures { result ≡ list_all is_ascii_digit word.now }
+{
+    word.iter().all(|b| b.is_ascii_digit())
+}
 
 // The number that the word's digits write, where it is at most the limit.
 pub fn number_up_to(limit: u32, word: &[u8]) -> Option<u32>
     ensures { result ≡ number_up_to limit word.now }
 {
-    if word.is_empty() {
+    // A sign in front is no digit, though the parse takes a plus.
+    if !are_digits(word) {
         return None;
     }
-    let mut value = 0u64;
-    for b in word {
-        if !b.is_ascii_digit() {
-            return None;
-        }
-        value = value * 10 + u64::from(*b - b'0');
-        if value > u64::from(limit) {
-            return None;
-        }
-    }
-    Some(value as u32)
+    let digits = str::from_utf8(word).ok()?;
+    u32::from_str_radix(digits, 10)
+        .ok()
+        .filter(|value| *value <= limit)
 }

@@ -1,10 +1,9 @@
 -- The bytes of rows, and the rows of bytes: each undoes the other.
-use Rattle.std.proofs.Common.{◌≡◌, ℕ, zero, suc, ◌+◌, ◌-◌, ◌*◌, ◌/◌, ◌%◌, ◌<◌, ◌≤◌, ltb, List, [], ◌∷◌, ◌++◌, length, get_or, take, drop, set, Some, None, Ok, Err, Result, sym, refl, ap, ◌∙◌, subst, ap₂, append_assoc, arith, length-append}
+use Rattle.std.proofs.Common.{◌≡◌, ℕ, zero, suc, ◌+◌, ◌-◌, ◌*◌, ◌/◌, ◌%◌, ◌<◌, ◌≤◌, ltb, List, [], ◌∷◌, ◌++◌, length, take, drop, Some, None, Ok, Err, Result, sym, refl, ap, ◌∙◌, subst, ap₂, append_assoc, arith, length-append}
 use Rattle.std.specs.Option.{option_or}
 use Rattle.std.specs.List.{flat_map, AllByRecursion as All}
 use Rattle.std.proofs.ByRecursion.{All-take, All-drop}
-use Rattle.std.proofs.lemmas.List.{take-append-drop, take_all, take_at, take_more, take_more_set, drop_at, drop-drop, append-nil, length-drop, length-take-le, nil_from_length, flat_map_more, take_rest}
-use Rattle.std.proofs.lemmas.Slice.{take-put_mid}
+use Rattle.std.proofs.lemmas.List.{take-append-drop, take_at, drop_at, drop-drop, length-drop, length-take-le, nil_from_length, take_rest}
 use Rattle.std.proofs.lemmas.Bool.{le-ltb, lt-ltb}
 use Rattle.std.proofs.lemmas.Bool.Decides.{nat_tests}
 use borrow.Rule.Slice.PartMut.{put_mid}
@@ -13,7 +12,7 @@ use Rattle.refusals.specs.declared.Refusal.{Refusal}
 use Rattle.refusals.specs.declared.Refusal.TheVariants.{ListTooShort}
 use Rattle.periods.specs.Multiples.{most_tasks}
 use Rattle.tasks.specs.Figures.{Fair}
-use Rattle.sheets.specs.Bytes.{two_bytes, sheet_length, task_entry, plan_entry, encoded, number_at, row_in, rows_in, entries_in, header_fault, sheet_fault}
+use Rattle.sheets.specs.Bytes.{two_bytes, sheet_length, task_entry, plan_entry, encoded, row_in, rows_in, entries_in, header_fault, sheet_fault, RightHeader}
 use Rattle.sheets.specs.Checks.{Sound, timed_in, rows_fault}
 use Rattle.sheets.specs.Sheets.{Gives, ReadsEncoded, ReadsBack, overwritten}
 use Rattle.sheets.specs.declared.fault.SheetFault.{SheetFault}
@@ -34,58 +33,36 @@ module _ (entry : SheetRow → List ℕ) where
   length_joined size sized (row ∷ rows) =
       length-append (entry row) (flat_map entry rows) ∙ omega (arith, sized row, length_joined size sized rows)
 
-  -- one entry more is written
-  pub written_more :
-      (rows : List SheetRow) (i : ℕ) (d : SheetRow) (out ys : List ℕ) (from k next : ℕ) → i < length rows →
-      ys ≡ entry (get_or rows i d) → next ≡ from + length ys → from ≤ length out →
-      take from out ≡ flat_map entry (take i rows) → take next (put_mid from k out ys) ≡ flat_map entry (take (i + 1) rows)
-  written_more rows i d out ys from k next inside is step room before =
-      take-put_mid from k out ys next step room
-      ∙ ap₂ ◌++◌ before is
-      ∙ flat_map_more entry [] (take i rows) (get_or rows i d)
-      ∙ ap (flat_map entry) (sym (take_more rows i d inside))
-
-  pub written_all :
-      (rows : List SheetRow) (i : ℕ) (out : List ℕ) (end : ℕ) → length rows ≤ i → length out ≤ end →
-      take end out ≡ flat_map entry (take i rows) → out ≡ flat_map entry rows
-  written_all rows i out end past whole written =
-      sym (take_all end out whole) ∙ written ∙ ap (flat_map entry) (take_all i rows past)
-
 length_tasks : (rows : List SheetRow) → length (flat_map task_entry rows) ≡ 7 * length rows
 length_tasks = length_joined task_entry 7 (λ row. refl)
 
 length_plans : (rows : List SheetRow) → length (flat_map plan_entry rows) ≡ 3 * length rows
 length_plans = length_joined plan_entry 3 (λ row. refl)
 
+length-rows_in : (count : ℕ) (tasks plans : List ℕ) → length (rows_in count tasks plans) ≡ count
+length-rows_in zero tasks plans = refl
+length-rows_in (suc count) tasks plans = ap suc (length-rows_in count (drop 7 tasks) (drop 3 plans))
+
 -- one row more is read
 pub read_more :
-    (rows : List SheetRow) (count i : ℕ) (row : SheetRow) (tasks plans more-tasks more-plans : List ℕ) (all : List SheetRow) →
-    i < length rows → i < count → row ≡ row_in tasks plans → more-tasks ≡ drop 7 tasks → more-plans ≡ drop 3 plans →
-    take i rows ++ rows_in (count - i) tasks plans ≡ all → take (i + 1) (set rows i row) ++ rows_in (count - (i + 1)) more-tasks more-plans ≡ all
-read_more rows count i row tasks plans more-tasks more-plans all inside below is tasks-on plans-on before =
-    let left : count - i ≡ suc (count - (i + 1)) = omega arith in
-    rw (take_more_set rows i row inside, tasks-on, plans-on, is)
-    (append_assoc (take i rows) _ _ ∙ ap (λ n. take i rows ++ rows_in n tasks plans) (sym left) ∙ before)
+    (made next : List SheetRow) (tasks plans : List ℕ) (all : List SheetRow) → 7 ≤ length tasks → next ≡ made ++ row_in tasks plans ∷ [] →
+    made ++ rows_in (length tasks / 7) tasks plans ≡ all → next ++ rows_in (length (drop 7 tasks) / 7) (drop 7 tasks) (drop 3 plans) ≡ all
+read_more made next tasks plans all long is before =
+    let left : length tasks / 7 ≡ suc (length (drop 7 tasks) / 7) = omega (arith, length-drop 7 tasks) in
+    rw is (append_assoc made _ _ ∙ ap (λ n. made ++ rows_in n tasks plans) (sym left) ∙ before)
 
-pub row_from :
-    (tasks plans : List ℕ) (work period deadline start : ℕ) → work ≡ number_at 1 tasks → period ≡ number_at 3 tasks →
-    deadline ≡ number_at 5 tasks → start ≡ number_at 0 plans →
-    ◌≡◌ {A = SheetRow}
-    (record {
-      id = get_or tasks 0 0;
-      figures = record { work = work; period = period; deadline = deadline };
-      start = start;
-      level = get_or plans 2 0;
-    })
-    (row_in tasks plans)
-row_from tasks plans work period deadline start is-work is-period is-deadline is-start = rw (is-work, is-period, is-deadline, is-start)
-
-pub read_all :
-    (rows : List SheetRow) (count i : ℕ) (tasks plans : List ℕ) (all : List SheetRow) → length rows ≤ i → count ≤ i →
-    take i rows ++ rows_in (count - i) tasks plans ≡ all → rows ≡ all
-read_all rows count i tasks plans all past done before =
-    let none : count - i ≡ 0 = omega arith in
-    sym (append-nil rows) ∙ ap₂ (λ made n. made ++ rows_in n tasks plans) (sym (take_all i rows past)) (sym none) ∙ before
+-- those made and those to come are as many as all
+pub rows_left :
+    (made : List SheetRow) (count : ℕ) (tasks plans : List ℕ) (all : ℕ) (all-tasks all-plans : List ℕ) →
+    made ++ rows_in count tasks plans ≡ rows_in all all-tasks all-plans → length made + count ≡ all
+rows_left made count tasks plans all all-tasks all-plans same =
+    omega (
+      arith,
+      length-append made (rows_in count tasks plans),
+      length-rows_in count tasks plans,
+      ap length same,
+      length-rows_in all all-tasks all-plans,
+    )
 
 -- the numbers of a row fit their two bytes
 record Fits (row : SheetRow) : Type 0 where
@@ -166,10 +143,6 @@ joined_rows_in (suc count) tasks plans small-tasks small-plans long-tasks long-p
       ap (λ more. plan_entry (row_in tasks plans) ++ more) rest.1 ∙ first_plan tasks plans small-plans (omega arith),
     )
 
-length-rows_in : (count : ℕ) (tasks plans : List ℕ) → length (rows_in count tasks plans) ≡ count
-length-rows_in zero tasks plans = refl
-length-rows_in (suc count) tasks plans = ap suc (length-rows_in count (drop 7 tasks) (drop 3 plans))
-
 -- the header of a sheet
 header_parts :
     (a b c d : ℕ) (rest : List ℕ) → header_fault (a ∷ b ∷ c ∷ d ∷ rest) ≡ None →
@@ -224,27 +197,25 @@ reads_back rows sound =
     let same = entries_in-encoded rows count.1 (fits_from_sound rows sound.case.fair sound.case.timely) in
     (ap₂ option_or (header_encoded rows count.0 count.1) (ap rows_fault same ∙ none_from_sound rows sound), same)
 
--- rows made in the first places of some slots
-module _ (slots rows more : List SheetRow) (count m : ℕ) (is_m : m ≡ count) (room : count ≤ length slots) where
-  many : length (take m slots) ≡ count
-  many = length-take-le m slots (omega arith) ∙ is_m
+-- the bytes after a right header: the task entries, and then the plan entries
+module _ (bytes tasks plans : List ℕ) (count : ℕ) (header : RightHeader bytes count)
+    (is-tasks : tasks ≡ take (7 * count) (take (length bytes - 4) (drop 4 bytes)))
+    (is-plans : plans ≡ drop (7 * count) (take (length bytes - 4) (drop 4 bytes))) where
+  rest_long : length (take (length bytes - 4) (drop 4 bytes)) ≡ 10 * count
+  rest_long = rw (take_rest bytes 4) (omega (arith, length-drop 4 bytes, header.long))
 
-  pub rows_fill : length rows ≡ length (take m slots) → count ≤ length (rows ++ more)
-  rows_fill long = omega (arith, length-append rows more, many)
+  many_tasks : length tasks / 7 ≡ count
+  many_tasks = omega (arith, ap length is-tasks, length-take-le (7 * count) (take (length bytes - 4) (drop 4 bytes)) (omega (arith, rest_long)))
 
-  -- they are made of the parts of the bytes after the header
-  pub rows_told :
-      (bytes tasks plans : List ℕ) → number_at 0 bytes ≡ count →
-      tasks ≡ take (7 * count) (take (length bytes - 4) (drop 4 bytes)) → plans ≡ drop (7 * count) (take (length bytes - 4) (drop 4 bytes)) →
-      rows ≡ rows_in (length (take m slots)) tasks plans → take m (rows ++ more) ≡ entries_in bytes
+  -- their rows are those that the sheet tells
+  pub rows_told : (rows : List SheetRow) → rows ≡ rows_in (length tasks / 7) tasks plans → rows ≡ entries_in bytes
   unfolding entries_in
-  rows_told bytes tasks plans told is-tasks is-plans is =
+  rows_told rows is =
       let after = take_rest bytes 4 in
-      let made = is ∙ ap (λ n. rows_in n tasks plans) many in
-      take_at rows more m (ap length made ∙ length-rows_in count tasks plans ∙ sym is_m)
-      ∙ made
+      is
+      ∙ ap (λ n. rows_in n tasks plans) many_tasks
       ∙ ap₂ (rows_in count) (is-tasks ∙ ap (take (7 * count)) after) (is-plans ∙ ap (drop (7 * count)) after)
-      ∙ ap (λ n. rows_in n (take (7 * n) (drop 4 bytes)) (drop (7 * n) (drop 4 bytes))) (sym told)
+      ∙ ap (λ n. rows_in n (take (7 * n) (drop 4 bytes)) (drop (7 * n) (drop 4 bytes))) (sym header.told)
 
 -- what is read
 module _ (bytes : List ℕ) where

@@ -1,17 +1,17 @@
 -- The search for the first wrong entry, and what it says where there is none.
-use Rattle.std.proofs.Common.{◌≡◌, ℕ, ◌+◌, ◌-◌, ◌<◌, ◌≤◌, true, ltb, List, [], ◌∷◌, ◌++◌, map, length, get_or, take, drop, Some, None, Ok, Err, Option, sym, refl, ap, ◌∙◌, arith}
+use Rattle.std.proofs.Common.{◌≡◌, ℕ, ◌+◌, ◌≤◌, ltb, List, [], ◌∷◌, ◌++◌, map, length, Some, None, Ok, Err, Option, Result, refl, ap, ◌∙◌, arith}
 use lib.ListN.{length-map}
 use Rattle.std.specs.Option.{option_map, option_or}
+use Rattle.std.specs.Result.{result_err}
 use Rattle.std.specs.Bool.{then_some}
-use Rattle.std.specs.List.{HoldsAt, AllByRecursion as All}
-use Rattle.std.proofs.lemmas.List.{at_drop_more, take_more, length-take-le, get_or-map}
+use Rattle.std.specs.List.{AllByRecursion as All}
 use Rattle.std.proofs.lemmas.Bool.Decides.{nat_tests}
 use Rattle.refusals.specs.Answers.{answer}
 use Rattle.refusals.specs.declared.Refusal.{Refusal}
 use Rattle.periods.specs.Multiples.{longest_common_period, common_period, period_refusal}
 use Rattle.tasks.specs.Loads.{periods_in}
 use Rattle.tasks.specs.Timed.{figures_given}
-use Rattle.sheets.specs.Checks.{timed_in, levels_in, last_id, is_in, first_wrong, period_fault}
+use Rattle.sheets.specs.Checks.{timed_in, first_wrong, period_fault}
 use Rattle.sheets.specs.declared.fault.EntryFault.{EntryFault}
 use Rattle.sheets.specs.declared.fault.SheetFault.TheVariants.{LongCommonPeriod}
 use Rattle.sheets.specs.declared.fault.WrongEntry.{WrongEntry}
@@ -22,28 +22,6 @@ abbrev placed : ℕ → EntryFault → WrongEntry
 placed place fault = record { place = place; fault = fault }
 
 module _ (check : List SheetRow → SheetRow → Option EntryFault) where
-  -- one entry further in a list
-  module _ (rows : List SheetRow) (i : ℕ) (d : SheetRow) (inside : i < length rows) where
-    next :
-        first_wrong check (take i rows) (drop i rows)
-        ≡ option_or (option_map (placed (i + 1)) (check (take i rows) (get_or rows i d))) (first_wrong check (take (i + 1) rows) (drop (i + 1) rows))
-    next =
-        let long = length-take-le i rows (omega arith) in
-        at_drop_more (first_wrong check (take i rows)) rows i d inside
-        ∙ rw (long, ← take_more rows i d inside)
-
-    pub wrong_here :
-        (fault : EntryFault) → check (take i rows) (get_or rows i d) ≡ Some fault →
-        first_wrong check (take i rows) (drop i rows) ≡ Some (placed (i + 1) fault)
-    wrong_here fault here =
-        next ∙ ap (λ found. option_or (option_map (placed (i + 1)) found) (first_wrong check (take (i + 1) rows) (drop (i + 1) rows))) here
-
-    pub wrong_later :
-        check (take i rows) (get_or rows i d) ≡ None →
-        first_wrong check (take i rows) (drop i rows) ≡ first_wrong check (take (i + 1) rows) (drop (i + 1) rows)
-    wrong_later right =
-        next ∙ ap (λ found. option_or (option_map (placed (i + 1)) found) (first_wrong check (take (i + 1) rows) (drop (i + 1) rows))) right
-
   -- no entry is wrong exactly where the first is right and none of the others is wrong
   pub none_parts :
       (earlier : List SheetRow) (row : SheetRow) (rows : List SheetRow) → first_wrong check earlier (row ∷ rows) ≡ None →
@@ -79,26 +57,6 @@ module _ (check : List SheetRow → SheetRow → Option EntryFault) where
     none_from_all says earlier (row ∷ rows) all =
         none_from_parts earlier row rows (says earlier row all.0) (none_from_all says (earlier ++ row ∷ []) rows all.1)
 
--- the last of some entries
-pub last_here :
-    (rows : List SheetRow) (row : SheetRow) → 0 < length rows → HoldsAt (λ other. row ≡ other) rows (length rows - 1) →
-    row.id ≡ last_id rows
-last_here rows row some here =
-    ap (λ (r : SheetRow). r.id) (here row) ∙ sym (get_or-map (λ r. r.id) rows (length rows - 1) row 0 (omega arith))
-
-pub last_none : (rows : List SheetRow) → length rows ≤ 0 → 0 ≡ last_id rows
-last_none [] none = refl
-last_none (row ∷ rows) none = absurd (omega arith)
-
--- the search for a level
-module _ (level : ℕ) (rows : List SheetRow) (i : ℕ) (d : SheetRow) (inside : i < length rows) where
-  pub taken_here : (get_or rows i d).level ≡ level → is_in level (levels_in (drop i rows)) ≡ true
-  taken_here same = at_drop_more (λ rest. is_in level (levels_in rest)) rows i d inside ∙ grind (arith, nat_tests)
-
-  pub taken_later :
-      ((get_or rows i d).level ≡ level → ⊥) → is_in level (levels_in (drop i rows)) ≡ is_in level (levels_in (drop (i + 1) rows))
-  taken_later other = at_drop_more (λ rest. is_in level (levels_in rest)) rows i d inside ∙ grind (arith, nat_tests)
-
 -- the common period
 pub figures_timed : (rows : List SheetRow) → figures_given (timed_in rows) ≡ map (λ row. row.figures) rows
 figures_timed [] = refl
@@ -109,14 +67,12 @@ module _ (ts : List ℕ) (rows : List SheetRow) (gathered : ts ≡ periods_in (f
   same_period =
       ap (λ all. then_some (ltb longest_common_period (common_period all)) LongCommonPeriod) gathered
 
-  pub short_period :
-      (common : ℕ) → Ok common ≡ answer (period_refusal ts) (common_period ts) → None ≡ period_fault rows
-  short_period common is = grind (arith, nat_tests) ∙ same_period
-
-  pub long_period :
-      (refusal : Refusal) → 1 ≤ length rows → Err refusal ≡ answer (period_refusal ts) (common_period ts) →
-      Some LongCommonPeriod ≡ period_fault rows
-  long_period refusal some is =
+  -- a common period is refused where it is too long, since there is a row
+  pub period_found :
+      (common : Result ℕ Refusal) → 1 ≤ length rows → common ≡ answer (period_refusal ts) (common_period ts) →
+      option_map (λ _. LongCommonPeriod) (result_err common) ≡ period_fault rows
+  period_found (Ok common) some is = grind (arith, nat_tests) ∙ same_period
+  period_found (Err refusal) some is =
       let long : length ts ≡ length rows =
       ap length gathered ∙ length-map (figures_given (timed_in rows)) (λ task. task.period) ∙ ap length (figures_timed rows) ∙ length-map rows (λ row. row.figures) in
       grind (arith, nat_tests) ∙ same_period

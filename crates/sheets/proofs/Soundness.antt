@@ -13,13 +13,14 @@ use Rattle.tasks.specs.Figures.{Fair, first_fault}
 use Rattle.tasks.specs.Rows.{Rising}
 use Rattle.tasks.specs.declared.rows.Timed.{Timed}
 use Rattle.tasks.proofs.Faults.{fair_from_none, none_from_fair}
-use Rattle.sheets.specs.Checks.{Sound, Different, ids_in, levels_in, tasks_in, last_id, is_in, fault_by, first_wrong, wrong_by, entries_fault, count_fault, period_fault, rows_fault}
-use Rattle.sheets.specs.declared.check.Check.TheVariants.{Ids, Figures as OfFigures, Starts, Levels}
+use Rattle.sheets.specs.Checks.{Sound, Different, ids_in, levels_in, tasks_in, last_id, is_in, id_fault, figures_fault, start_fault, level_fault, first_wrong, entries_fault, count_fault, period_fault, rows_fault}
 use Rattle.sheets.specs.declared.fault.EntryFault.TheVariants.{UnsortedId, Figures as UnfairFigures, LateStart}
 use Rattle.sheets.specs.declared.fault.SheetFault.{SheetFault}
-use Rattle.sheets.specs.declared.fault.SheetFault.TheVariants.{Entry, LongCommonPeriod}
+use Rattle.sheets.specs.declared.fault.SheetFault.TheVariants.{WrongCount, Entry, LongCommonPeriod}
 use Rattle.sheets.specs.declared.fault.WrongEntry.{WrongEntry}
+use Rattle.sheets.specs.Sheets.{rows_of}
 use Rattle.sheets.specs.declared.row.SheetRow.{SheetRow}
+use Rattle.sheets.specs.declared.sheet.Sheet.{Sheet}
 use Rattle.sheets.proofs.Entries.{none_parts, none_from_parts, all_from_none, none_from_all}
 
 -- a test that finds no fault
@@ -32,25 +33,24 @@ last_id_push earlier row =
     rw (map_push (λ r. r.id) earlier row, length_push earlier row)
     (get_or_push (ids_in earlier) row.id 0 (length earlier + 1 - 1) (length-map earlier (λ r. r.id) ∙ omega arith))
 
-module _ (count : ℕ) where
-  rising_from_none :
-      (earlier rows : List SheetRow) → first_wrong (fault_by Ids count) earlier rows ≡ None →
-      Rising (last_id earlier + 1) (tasks_in rows)
-  rising_from_none earlier [] none = tt
-  rising_from_none earlier (row ∷ rows) none =
-      let parts = none_parts (fault_by Ids count) earlier row rows none in
-      let above : leb row.id (last_id earlier) ≡ false = passes _ UnsortedId parts.0 in
-      let later = rising_from_none (earlier ++ row ∷ []) rows parts.1 in
-      (grind (arith, nat_tests), subst (λ (id : ℕ). Rising (id + 1) (tasks_in rows)) (last_id_push earlier row) later)
+rising_from_none :
+    (earlier rows : List SheetRow) → first_wrong id_fault earlier rows ≡ None →
+    Rising (last_id earlier + 1) (tasks_in rows)
+rising_from_none earlier [] none = tt
+rising_from_none earlier (row ∷ rows) none =
+    let parts = none_parts id_fault earlier row rows none in
+    let above : leb row.id (last_id earlier) ≡ false = passes _ UnsortedId parts.0 in
+    let later = rising_from_none (earlier ++ row ∷ []) rows parts.1 in
+    (grind (arith, nat_tests), subst (λ (id : ℕ). Rising (id + 1) (tasks_in rows)) (last_id_push earlier row) later)
 
-  none_from_rising :
-      (earlier rows : List SheetRow) → Rising (last_id earlier + 1) (tasks_in rows) →
-      first_wrong (fault_by Ids count) earlier rows ≡ None
-  none_from_rising earlier [] rising = refl
-  none_from_rising earlier (row ∷ rows) rising =
-      let above = rising.0 in
-      let later = subst (λ (id : ℕ). Rising (id + 1) (tasks_in rows)) (sym (last_id_push earlier row)) rising.1 in
-      none_from_parts (fault_by Ids count) earlier row rows (grind (arith, nat_tests)) (none_from_rising (earlier ++ row ∷ []) rows later)
+none_from_rising :
+    (earlier rows : List SheetRow) → Rising (last_id earlier + 1) (tasks_in rows) →
+    first_wrong id_fault earlier rows ≡ None
+none_from_rising earlier [] rising = refl
+none_from_rising earlier (row ∷ rows) rising =
+    let above = rising.0 in
+    let later = subst (λ (id : ℕ). Rising (id + 1) (tasks_in rows)) (sym (last_id_push earlier row)) rising.1 in
+    none_from_parts id_fault earlier row rows (grind (arith, nat_tests)) (none_from_rising (earlier ++ row ∷ []) rows later)
 
 -- levels
 in_places_lem : (number : ℕ) (numbers : List ℕ) → Decides (is_in number numbers) ((k : ℕ) × (k < length numbers) × HoldsAt (λ other. number ≡ other) numbers k)
@@ -100,37 +100,37 @@ abbrev InRange : ℕ → ℕ → Type 0
 InRange count level = (1 ≤ level) × (level ≤ count)
 
 module _ (count : ℕ) where
-  range_from_none : (earlier : List SheetRow) (row : SheetRow) → fault_by Levels count earlier row ≡ None → InRange count row.level
+  range_from_none : (earlier : List SheetRow) (row : SheetRow) → level_fault count earlier row ≡ None → InRange count row.level
   range_from_none earlier row none = (grind (arith, nat_tests), grind (arith, nat_tests))
 
-  fresh_from_none : (earlier : List SheetRow) (row : SheetRow) → fault_by Levels count earlier row ≡ None → is_in row.level (levels_in earlier) ≡ false
+  fresh_from_none : (earlier : List SheetRow) (row : SheetRow) → level_fault count earlier row ≡ None → is_in row.level (levels_in earlier) ≡ false
   fresh_from_none earlier row none = grind (arith, nat_tests)
 
   right_level :
       (earlier : List SheetRow) (row : SheetRow) → InRange count row.level → is_in row.level (levels_in earlier) ≡ false →
-      fault_by Levels count earlier row ≡ None
+      level_fault count earlier row ≡ None
   right_level earlier row range fresh = grind (arith, nat_tests)
 
   different_from_none :
-      (earlier rows : List SheetRow) → Different (levels_in earlier) → first_wrong (fault_by Levels count) earlier rows ≡ None →
+      (earlier rows : List SheetRow) → Different (levels_in earlier) → first_wrong (level_fault count) earlier rows ≡ None →
       Different (levels_in (earlier ++ rows))
   different_from_none earlier [] different none =
       subst (λ (all : List SheetRow). Different (levels_in all)) (sym (append-nil earlier)) different
   different_from_none earlier (row ∷ rows) different none =
-      let parts = none_parts (fault_by Levels count) earlier row rows none in
+      let parts = none_parts (level_fault count) earlier row rows none in
       let more = different_push (levels_in earlier) row.level different (fresh_from_none earlier row parts.0) in
       subst (λ (all : List SheetRow). Different (levels_in all)) (append_assoc earlier (row ∷ []) rows)
       (different_from_none (earlier ++ row ∷ []) rows (subst Different (sym (map_push (λ r. r.level) earlier row)) more) parts.1)
 
   none_from_different :
       (earlier rows : List SheetRow) → All (λ row. InRange count row.level) rows → Different (levels_in (earlier ++ rows)) →
-      first_wrong (fault_by Levels count) earlier rows ≡ None
+      first_wrong (level_fault count) earlier rows ≡ None
   none_from_different earlier [] range different = refl
   none_from_different earlier (row ∷ rows) range different =
       let fresh =
       different_middle (levels_in earlier) row.level (levels_in rows)
       (subst Different (map-append (λ (r : SheetRow). r.level) earlier (row ∷ rows)) different) in
-      none_from_parts (fault_by Levels count) earlier row rows (right_level earlier row range.0 fresh)
+      none_from_parts (level_fault count) earlier row rows (right_level earlier row range.0 fresh)
       (none_from_different (earlier ++ row ∷ []) rows range.1
       (subst (λ (all : List SheetRow). Different (levels_in all)) (sym (append_assoc earlier (row ∷ []) rows)) different))
 
@@ -147,9 +147,9 @@ timely_right row none = grind (arith, nat_tests)
 right_timely : (row : SheetRow) → row.start < row.figures.period → then_some (leb row.figures.period row.start) LateStart ≡ None
 right_timely row timely = grind (arith, nat_tests)
 
-pub fair_from_passed : (rows : List SheetRow) → wrong_by OfFigures rows ≡ None → All (λ row. Fair row.figures) rows
+pub fair_from_passed : (rows : List SheetRow) → first_wrong figures_fault [] rows ≡ None → All (λ row. Fair row.figures) rows
 fair_from_passed rows none =
-    all_from_none (fault_by OfFigures (length rows)) (λ row. Fair row.figures) (λ earlier. fair_right) [] rows none
+    all_from_none figures_fault (λ row. Fair row.figures) (λ earlier. fair_right) [] rows none
 
 all_unmap : {X Y : Type 0} (P : Y → Type 0) (f : X → Y) (xs : List X) → All P (map f xs) → All (λ x. P (f x)) xs
 all_unmap P f [] all = tt
@@ -201,23 +201,23 @@ unfolding rows_fault timed
 sound_from_none rows none =
     let count = length rows in
     let parts = sheet_parts (count_fault count) (entries_fault rows) (period_fault rows) none in
-    let entries = entry_parts (wrong_by Ids rows) (wrong_by OfFigures rows) (wrong_by Starts rows) (wrong_by Levels rows) parts.1 in
+    let entries = entry_parts (first_wrong id_fault [] rows) (first_wrong figures_fault [] rows) (first_wrong start_fault [] rows) (first_wrong (level_fault count) [] rows) parts.1 in
     let range = count_right count parts.0 in
     let long = length-map rows timed in
     record {
-      rising = rising_from_none count [] rows entries.0;
+      rising = rising_from_none [] rows entries.0;
       case = record {
         some = omega (arith, range.0, long);
         few = omega (arith, range.1, long);
         fair = All-map (λ row. Fair row.figures) timed rows (fair_from_passed rows entries.1);
         timely =
             All-map (λ row. row.start < row.figures.period) timed rows
-            (all_from_none (fault_by Starts count) (λ row. row.start < row.figures.period) (λ earlier. timely_right) [] rows entries.2);
+            (all_from_none start_fault (λ row. row.start < row.figures.period) (λ earlier. timely_right) [] rows entries.2);
         short = short_right _ parts.2;
       };
       levels =
           All-map (InRange count) (λ row. row.level) rows
-          (all_from_none (fault_by Levels count) (λ row. InRange count row.level) (range_from_none count) [] rows entries.3);
+          (all_from_none (level_fault count) (λ row. InRange count row.level) (range_from_none count) [] rows entries.3);
       different = different_from_none count [] rows (λ i j within. absurd (omega arith)) entries.3;
     }
 
@@ -229,21 +229,28 @@ none_from_sound rows sound =
     let long = length-map rows timed in
     rw (
       right_count count (omega (arith, case.some, long)) (omega (arith, case.few, long)),
-      none_from_rising count [] rows sound.rising,
-      none_from_all (fault_by OfFigures count) (λ row. Fair row.figures) (λ earlier. right_fair) [] rows
+      none_from_rising [] rows sound.rising,
+      none_from_all figures_fault (λ row. Fair row.figures) (λ earlier. right_fair) [] rows
           (all_unmap (λ row. Fair row.figures) timed rows case.fair),
-      none_from_all (fault_by Starts count) (λ row. row.start < row.figures.period) (λ earlier. right_timely) [] rows
+      none_from_all start_fault (λ row. row.start < row.figures.period) (λ earlier. right_timely) [] rows
           (all_unmap (λ row. row.start < row.figures.period) timed rows case.timely),
       none_from_different count [] rows (all_unmap (InRange count) (λ row. row.level) rows sound.levels) sound.different,
       right_short _ case.short,
     )
 
-pub few_from_none : (rows : List SheetRow) → rows_fault rows ≡ None → length rows ≤ most_tasks
-unfolding timed
-few_from_none rows none = omega (arith, (sound_from_none rows none).case.few, length-map rows timed)
+-- more rows than a sheet holds
+pub many_said : (rows : List SheetRow) → most_tasks < length rows → rows_fault rows ≡ Some WrongCount
+unfolding rows_fault
+many_said rows many =
+    let count : count_fault (length rows) ≡ Some WrongCount = grind (arith, nat_tests) in
+    ap (λ found. option_or found (option_or (option_map Entry (entries_fault rows)) (period_fault rows))) count
 
 pub sound_from_test : (rows : List SheetRow) → is_some (rows_fault rows) ≡ false → Sound rows
 sound_from_test rows test = sound_from_none rows (grind arith)
+
+-- what a sheet holds is sound
+pub sheet_sound : (sheet : Sheet) → Sound (rows_of sheet)
+sheet_sound sheet = sound_from_test (rows_of sheet) sheet.sound
 
 pub count_from_sound : (rows : List SheetRow) → Sound rows → (1 ≤ length rows) × (length rows ≤ most_tasks)
 unfolding timed

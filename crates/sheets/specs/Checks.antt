@@ -1,8 +1,11 @@
 -- The entries of a sheet, and the checks that they have to pass.
-use Rattle.std.specs.Prelude.{◌≡◌, ℕ, ◌+◌, ◌-◌, ◌<◌, ◌≤◌, Bool, false, ◌||◌, List, [], ◌∷◌, ◌++◌, map, length, None, Option, ◌==◌, nat_le, nat_lt, slice_index}
+use Rattle.std.specs.Prelude.{◌≡◌, ℕ, ◌+◌, ◌-◌, ◌<◌, ◌≤◌, Bool, ◌||◌, List, [], ◌∷◌, ◌++◌, map, length, None, Option, Result, ◌==◌, nat_le, nat_lt, slice_index}
 use Rattle.std.specs.Option.{option_map, option_or}
+use Rattle.std.specs.Borrow.{Bor}
+use Rattle.std.specs.Fn.{Shared}
+use Rattle.std.specs.Result.{result_err}
 use Rattle.std.specs.Bool.{then_some}
-use Rattle.std.specs.List.{AllByRecursion}
+use Rattle.std.specs.List.{AllByRecursion, list_any}
 use Rattle.periods.specs.Multiples.{most_tasks, longest_common_period, common_period}
 use Rattle.tasks.specs.Figures.{first_fault}
 use Rattle.tasks.specs.Loads.{periods_in}
@@ -10,8 +13,6 @@ use Rattle.tasks.specs.Rows.{row_of, Rising}
 use Rattle.tasks.specs.Timed.{Sound as FormsCase, figures_given}
 use Rattle.tasks.specs.declared.rows.Row.{Row}
 use Rattle.tasks.specs.declared.rows.Timed.{Timed}
-use Rattle.sheets.specs.declared.check.Check.{Check}
-use Rattle.sheets.specs.declared.check.Check.TheVariants.{Ids, Figures, Starts, Levels}
 use Rattle.sheets.specs.declared.fault.EntryFault.{EntryFault}
 use Rattle.sheets.specs.declared.fault.EntryFault.TheVariants.{UnsortedId, Figures as UnfairFigures, LateStart, WrongLevel}
 use Rattle.sheets.specs.declared.fault.SheetFault.{SheetFault}
@@ -49,16 +50,28 @@ abbrev pub last_id : List SheetRow → ℕ
 last_id rows = slice_index (ids_in rows) (length rows - 1)
 
 abbrev pub is_in : ℕ → List ℕ → Bool
-is_in number [] = false
-is_in number (other ∷ others) = number == other || is_in number others
+is_in number numbers = list_any (λ other. number == other) numbers
 
--- what a check finds wrong with an entry, one of `count`, given the entries before it
-abbrev pub fault_by : Check → ℕ → List SheetRow → SheetRow → Option EntryFault
-fault_by Ids count earlier row = then_some (nat_le row.id (last_id earlier)) UnsortedId
-fault_by Figures count earlier row = option_map UnfairFigures (first_fault row.figures)
-fault_by Starts count earlier row = then_some (nat_le row.figures.period row.start) LateStart
-fault_by Levels count earlier row =
+-- what a check finds wrong with an entry, given the entries before it: an id that is not above theirs, unfair figures,
+-- a late start, and, of so many entries, a wrong level
+abbrev pub id_fault : List SheetRow → SheetRow → Option EntryFault
+id_fault earlier row = then_some (nat_le row.id (last_id earlier)) UnsortedId
+
+abbrev pub figures_fault : List SheetRow → SheetRow → Option EntryFault
+figures_fault earlier row = option_map UnfairFigures (first_fault row.figures)
+
+abbrev pub start_fault : List SheetRow → SheetRow → Option EntryFault
+start_fault earlier row = then_some (nat_le row.figures.period row.start) LateStart
+
+abbrev pub level_fault : ℕ → List SheetRow → SheetRow → Option EntryFault
+level_fault count earlier row =
     then_some (row.level == 0 || (nat_lt count row.level || is_in row.level (levels_in earlier))) WrongLevel
+
+-- a closure is such a check
+abbrev pub Checks : {F : Type 0} → Shared F (Bor (List SheetRow) × (SheetRow × Unit {0})) (Result (Unit {0}) EntryFault) → F → (List SheetRow → SheetRow → Option EntryFault) → Type 0
+Checks {F} calls check fault =
+    (earlier : Bor (List SheetRow)) (row : SheetRow) (r : Result (Unit {0}) EntryFault) → calls.post check (earlier, (row, tt)) r →
+    result_err r ≡ fault earlier.now row
 
 -- the first wrong entry, its place counted from 1; the earlier entries have passed
 abbrev pub first_wrong : (List SheetRow → SheetRow → Option EntryFault) → List SheetRow → List SheetRow → Option WrongEntry
@@ -67,13 +80,12 @@ first_wrong check earlier (row ∷ rows) =
     option_or (option_map (λ fault. record { place = length earlier + 1; fault = fault }) (check earlier row))
     (first_wrong check (earlier ++ row ∷ []) rows)
 
-abbrev pub wrong_by : Check → List SheetRow → Option WrongEntry
-wrong_by check rows = first_wrong (fault_by check (length rows)) [] rows
-
 -- each check covers all entries before the next begins
 abbrev pub entries_fault : List SheetRow → Option WrongEntry
 entries_fault rows =
-    option_or (wrong_by Ids rows) (option_or (wrong_by Figures rows) (option_or (wrong_by Starts rows) (wrong_by Levels rows)))
+    option_or (first_wrong id_fault [] rows)
+    (option_or (first_wrong figures_fault [] rows)
+    (option_or (first_wrong start_fault [] rows) (first_wrong (level_fault (length rows)) [] rows)))
 
 -- no entry, or too many
 abbrev pub count_fault : ℕ → Option SheetFault

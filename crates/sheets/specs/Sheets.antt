@@ -1,5 +1,6 @@
 -- A sheet, and what reading and writing one promise.
-use Rattle.std.specs.Prelude.{◌≡◌, ℕ, cond, List, ◌++◌, length, take, drop, Some, None, Ok, Err, Option, Result, ◌≢◌, nat_lt}
+use Rattle.std.specs.Prelude.{◌≡◌, ℕ, cond, List, ◌++◌, length, drop, Some, None, Ok, Err, Option, Result, ◌≢◌, nat_lt}
+use Rattle.short_list.specs.Items.{items_of}
 use Rattle.sheets.specs.Bytes.{sheet_length, encoded, entries_in, sheet_fault}
 use Rattle.sheets.specs.Checks.{Sound}
 use Rattle.sheets.specs.declared.fault.SheetFault.{SheetFault}
@@ -8,7 +9,7 @@ use Rattle.sheets.specs.declared.sheet.Sheet.{Sheet}
 
 -- the entries, in rising order of their ids
 abbrev pub rows_of : Sheet → List SheetRow
-rows_of sheet = take sheet.count sheet.rows
+rows_of sheet = items_of sheet.rows
 
 -- a sheet of these rows, unless there is a fault
 abbrev pub Gives : Option SheetFault → List SheetRow → Result Sheet SheetFault → Type 0

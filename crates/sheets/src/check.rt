@@ -1,93 +1,76 @@
 // The checks that the rows of a sheet have to pass.
-ghost use Rattle.std.specs.Prelude.{◌≡◌, ◌≤◌, length};
+ghost use Rattle.std.specs.Prelude.{◌≡◌, List, [], Option};
 ghost use Rattle.std.specs.Result.{result_err};
-ghost use Rattle.periods.specs.Multiples.{most_tasks};
-ghost use Rattle.periods.specs.Rows.{periods_of as held_periods};
-ghost use Rattle.std.specs.List.{AllByRecursion};
-ghost use Rattle.tasks.specs.Figures.{Fair};
-ghost use Rattle.tasks.specs.Loads.{periods_in};
-ghost use Rattle.tasks.specs.Timed.{figures_given};
-ghost use Rattle.sheets.specs.Checks.{timed_in, last_id, is_in, levels_in, fault_by, wrong_by, entries_fault, count_fault, period_fault, rows_fault};
+ghost use Rattle.sheets.specs.Checks.{last_id, is_in, levels_in, id_fault, figures_fault, start_fault, level_fault, Checks, first_wrong, entries_fault, count_fault, rows_fault};
 
 use crate::fault::{EntryFault, SheetFault, WrongEntry};
 use crate::row::SheetRow;
-use periods::{MOST_TASKS, Periods};
-use tasks::Task;
+use periods::MOST_TASKS;
+use tasks::{Task, periods_of};
 
-// What is looked at, one after the other.
-#[derive(Clone, Copy)]
-enum Check {
-    Ids,
-    Figures,
-    Starts,
-    Levels,
+// An id above those of the entries before it.
+fn check_id(earlier: &[SheetRow], row: SheetRow) -> Result<(), EntryFault>
+    ensures { result_err result ≡ id_fault earlier.now row }
+{
+    if row.id <= last_id(earlier) {
+        return Err(EntryFault::UnsortedId);
+    }
+    Ok(())
 }
 
-impl Check {
-    // What this check finds wrong with an entry, one of `count`, given the entries before it.
-    fn entry(self, count: usize, earlier: &[SheetRow], row: SheetRow) -> Result<(), EntryFault>
-        ensures { result_err result ≡ fault_by self count earlier.now row }
-    {
-        match self {
-            Check::Ids => {
-                if row.id <= last_id(earlier) {
-                    return Err(EntryFault::UnsortedId);
-                }
-            }
-            Check::Figures => {
-                Task::form(row.figures)?;
-            }
-            Check::Starts => {
-                if row.start >= row.figures.period {
-                    return Err(EntryFault::LateStart);
-                }
-            }
-            Check::Levels => {
-                if row.level == 0
-                    || usize::from(row.level) > count
-                    || is_taken(row.level, earlier)
-                {
-                    return Err(EntryFault::WrongLevel);
-                }
-            }
-        }
-        Ok(())
-    }
+fn check_figures(_earlier: &[SheetRow], row: SheetRow) -> Result<(), EntryFault>
+    ensures { result_err result ≡ figures_fault _earlier.now row }
+{
+    Task::form(row.figures)?;
+    Ok(())
+}
 
-    // The first entry that fails this check.
-    fn entries(self, rows: &[SheetRow]) -> Result<(), WrongEntry>
-        ensures { result_err result ≡ wrong_by self rows.now }
-    {
-        for (i, row) in rows.iter().enumerate() {
-            if let Err(fault) = self.entry(rows.len(), &rows[0..i], *row) {
-                return Err(WrongEntry {
-                    place: i + 1,
-                    fault,
-                });
-            }
-        }
-        Ok(())
+fn check_start(_earlier: &[SheetRow], row: SheetRow) -> Result<(), EntryFault>
+    ensures { result_err result ≡ start_fault _earlier.now row }
+{
+    if row.start >= row.figures.period {
+        return Err(EntryFault::LateStart);
     }
+    Ok(())
+}
+
+// A level from 1 to the number of entries, and none of those before it.
+fn check_level(count: usize, earlier: &[SheetRow], row: SheetRow) -> Result<(), EntryFault>
+    ensures { result_err result ≡ level_fault count earlier.now row }
+{
+    if row.level == 0 || usize::from(row.level) > count || is_taken(row.level, earlier) {
+        return Err(EntryFault::WrongLevel);
+    }
+    Ok(())
+}
+
+// The first entry that fails a check, which is given the entries before it too.
+fn check_each<F: Fn(&[SheetRow], SheetRow) -> Result<(), EntryFault>>(
+    rows: &[SheetRow],
+    check: F,
+) -> Result<(), WrongEntry>
+    requires { F.IsAlwaysCallable check }
+    ensures { (fault : List SheetRow → SheetRow → Option EntryFault) → Checks F.Fn check fault → result_err result ≡ first_wrong fault [] rows.now }
+{
+    for (i, row) in rows.iter().enumerate() {
+        check(&rows[..i], *row).map_err(|fault| WrongEntry {
+            place: i + 1,
+            fault,
+        })?;
+    }
+    Ok(())
 }
 
 fn last_id(rows: &[SheetRow]) -> u8
     ensures { result ≡ last_id rows.now }
 {
-    match rows.last() {
-        Some(row) => row.id,
-        None => 0,
-    }
+    rows.last().map_or(0, |row| row.id)
 }
 
 fn is_taken(level: u8, rows: &[SheetRow]) -> bool
     ensures { result ≡ is_in level (levels_in rows.now) }
 {
-    for row in rows {
-        if row.level == level {
-            return true;
-        }
-    }
-    false
+    rows.iter().map(|row| row.level).any(|other| level == other)
 }
 
 // Why these rows make no sheet, if they do not.
@@ -96,7 +79,11 @@ pub(crate) fn check_rows(rows: &[SheetRow]) -> Result<(), SheetFault>
 {
     check_count(rows.len())?;
     check_entries(rows)?;
-    check_period(rows)
+    periods_of(rows)
+        .unwrap()
+        .common_period()
+        .map_err(|_| SheetFault::LongCommonPeriod)?;
+    Ok(())
 }
 
 pub(crate) fn check_count(count: usize) -> Result<(), SheetFault>
@@ -112,34 +99,8 @@ pub(crate) fn check_count(count: usize) -> Result<(), SheetFault>
 fn check_entries(rows: &[SheetRow]) -> Result<(), WrongEntry>
     ensures { result_err result ≡ entries_fault rows.now }
 {
-    Check::Ids.entries(rows)?;
-    Check::Figures.entries(rows)?;
-    Check::Starts.entries(rows)?;
-    Check::Levels.entries(rows)
-}
-
-// The periods of fair rows.
-pub fn periods_of(rows: &[SheetRow]) -> Periods
-    requires few { length rows.now ≤ most_tasks }
-    requires fair { AllByRecursion (λ row. Fair row.figures) rows.now }
-    ensures { held_periods result ≡ periods_in (figures_given (timed_in rows.now)) }
-{
-    let mut periods = Periods::new();
-    for row in rows {
-        periods.add(row.figures.period);
-    }
-    periods
-}
-
-// Whether the common period of fair rows is too long.
-fn check_period(rows: &[SheetRow]) -> Result<(), SheetFault>
-    requires some { 1 ≤ length rows.now }
-    requires few { length rows.now ≤ most_tasks }
-    requires fair { AllByRecursion (λ row. Fair row.figures) rows.now }
-    ensures { result_err result ≡ period_fault rows.now }
-{
-    match periods_of(rows).common_period() {
-        Ok(_) => Ok(()),
-        Err(_) => Err(SheetFault::LongCommonPeriod),
-    }
+    check_each(rows, check_id)?;
+    check_each(rows, check_figures)?;
+    check_each(rows, check_start)?;
+    check_each(rows, |earlier, row| check_level(rows.len(), earlier, row))
 }

@@ -2,9 +2,10 @@
 ghost use Rattle.std.specs.Prelude.{◌≡◌};
 ghost use Rattle.sheets.specs.Faults.{entry_number, entry_cause, number_of, layer_of, place_of, cause_of};
 ghost use Rattle.sheets.specs.declared.fault.EntryFault.TheVariants.{Figures};
-ghost use Rattle.sheets.specs.declared.fault.SheetFault.TheVariants.{Entry};
+ghost use Rattle.sheets.specs.declared.fault.SheetFault.TheVariants.{Entry, WrongCount};
 
 use refusals::TaskFault;
+use short_list::Full;
 
 // What can be wrong with one entry.
 #[derive(Clone, Copy, PartialEq, Eq, Debug)]
@@ -54,6 +55,17 @@ impl EntryFault {
         }
     }
 
+    fn layer(self) -> Layer
+        ensures { result ≡ layer_of (entry_number self) }
+    {
+        match self {
+            EntryFault::UnsortedId | EntryFault::Figures(_) | EntryFault::LateStart => {
+                Layer::Entries
+            }
+            EntryFault::WrongLevel => Layer::Order,
+        }
+    }
+
     // What is wrong with the figures, where these are the fault.
     fn cause(self) -> Option<TaskFault>
         ensures { result ≡ entry_cause self }
@@ -82,15 +94,16 @@ impl SheetFault {
     pub fn layer(self) -> Layer
         ensures { result ≡ layer_of (number_of self) }
     {
-        match self.number() {
-            40..=42 => Layer::Bytes,
-            43..=45 => Layer::Entries,
-            46..=47 => Layer::Order,
-            _ => Layer::Judge,
+        match self {
+            SheetFault::NoHeader | SheetFault::WrongCount | SheetFault::WrongLength => Layer::Bytes,
+            SheetFault::Entry(wrong) => wrong.fault.layer(),
+            SheetFault::LongCommonPeriod => Layer::Order,
+            SheetFault::RefusedLevel(_) => Layer::Judge,
         }
     }
 
-    // The wrong entry, counted from 1, or the level that the judge refuses, or else 0.
+    // The wrong entry, counted from 1, or the level that the judge refuses, or else 0: the shop's format has no other
+    // way to say that there is none.
     pub fn place(self) -> usize
         ensures { result ≡ place_of self }
     {
@@ -125,5 +138,14 @@ impl From<WrongEntry> for SheetFault {
 
     fn from(entry: WrongEntry) -> SheetFault {
         SheetFault::Entry(entry)
+    }
+}
+
+// More rows than a sheet holds.
+impl From<Full> for SheetFault {
+    ghost from_gives = { λ _ r. r ≡ WrongCount };
+
+    fn from(_: Full) -> SheetFault {
+        Self::WrongCount
     }
 }

@@ -1,8 +1,10 @@
 // A row of a sheet.
-use tasks::Figures;
+ghost use Rattle.std.specs.Prelude.{◌≡◌};
+
+use tasks::{Figures, HasFigures};
 
 // A task, and its part in the plan: the tick of its first request, and its level.
-#[derive(Clone, Copy, PartialEq, Eq, Debug)]
+#[derive(Clone, Copy, PartialEq, Eq, Debug, Default)]
 pub struct SheetRow {
     pub id: u8,
     pub figures: Figures,
@@ -10,14 +12,10 @@ pub struct SheetRow {
     pub level: u8,
 }
 
-// What stands in the free places of a sheet.
-pub(crate) const BLANK: SheetRow = SheetRow {
-    id: 0,
-    figures: Figures {
-        work: 0,
-        period: 0,
-        deadline: 0,
-    },
-    start: 0,
-    level: 0,
-};
+impl HasFigures for SheetRow {
+    ghost has = { λ row. row.figures };
+
+    fn figures(&self) -> Figures {
+        self.figures
+    }
+}

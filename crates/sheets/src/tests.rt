@@ -15,11 +15,7 @@ const EXAMPLE: [u8; 34] = [
 fn row(id: u8, work: u16, period: u16, start: u16, level: u8) -> SheetRow {
     SheetRow {
         id,
-        figures: Figures {
-            work,
-            period,
-            deadline: period,
-        },
+        figures: Figures::new(work, period, period),
         start,
         level,
     }

@@ -1,13 +1,19 @@
 -- An id that stands at an index, or that belongs there.
-use Rattle.std.proofs.Common.{◌≡◌, ℕ, suc, ◌+◌, ◌<◌, ◌≤◌, true, false, List, [], ◌∷◌, ◌++◌, get_or, take, drop, set, is_some, Some, None, sym, refl, ap, ◌∙◌, arith, drop-cons}
+use Rattle.std.proofs.Common.{◌≡◌, ℕ, suc, ◌+◌, ◌<◌, ◌≤◌, true, false, List, [], ◌∷◌, ◌++◌, get_or, take, drop, set, is_some, Some, None, Ok, Err, MatchResult, OnOk, OnErr, Result, sym, refl, ap, ◌∙◌, arith, drop-cons}
 use Rattle.std.specs.List.{insert, remove, AllByRecursion as All}
 use Rattle.std.proofs.lemmas.List.{take-append-drop, set_split, length-take-le}
 use Rattle.std.proofs.lemmas.Bool.Decides.{nat_tests}
+use Rattle.std.specs.Result.{IsErrAnd}
+use Rattle.refusals.specs.Answers.{AnswersWith}
+use Rattle.refusals.specs.declared.Refusal.{Refusal}
 use Rattle.refusals.specs.declared.Refusal.TheVariants.{StandingId, UnknownId}
+use Rattle.short_list.specs.Items.{items_of}
+use Rattle.short_list.specs.declared.list.ShortList.{ShortList}
 use Rattle.tasks.specs.declared.rows.Row.{Row}
-use Rattle.tasks.specs.Rows.{figures_of, stands, place_of, entered, amended, struck, standing_refusal, unknown_refusal}
+use Rattle.tasks.specs.Figures.{is_fair}
+use Rattle.tasks.specs.Rows.{tidy, figures_of, stands, place_of, entered, amended, struck, standing_refusal, unknown_refusal}
 use Rattle.tasks.specs.Seeking.{StandsAt, BelongsAt}
-use Rattle.tasks.proofs.Changes.{none_below, figures_of_past, place_of_past, struck_past, entered_past, amended_past}
+use Rattle.tasks.proofs.Changes.{tidy-entered, none_below, figures_of_past, place_of_past, struck_past, entered_past, amended_past}
 
 -- what an index past the end reads
 abbrev pub blank : Row
@@ -75,3 +81,24 @@ module _ (id : ℕ) (rows : List Row) (at : ℕ) (gap : BelongsAt id rows at) wh
       ap (entered new) (sym (take-append-drop at rows))
       ∙ entered_past new (drop at rows) (take at rows) (rw is gap.smaller)
       ∙ ap (λ rest. take at rows ++ rest) (entered_first new (drop at rows) (rw is gap.greater))
+
+-- the answer of a search, with an id that does not stand refused
+pub known_or_unknown :
+    (id : ℕ) (rows : List Row) {Q : ℕ → Refusal → Type 0} (r : Result ℕ ℕ) (s : Result ℕ Refusal) → (id ≡ 0 → ⊥) →
+    MatchResult r (StandsAt id rows) (BelongsAt id rows) → MatchResult r (λ at. s ≡ Ok at) (λ at. IsErrAnd s (Q at)) →
+    ((at : ℕ) (why : Refusal) → Q at why → why ≡ UnknownId) → AnswersWith (unknown_refusal id rows) (StandsAt id rows) s
+known_or_unknown id rows (Ok at) s nonzero found same why = rw same (known id rows at found nonzero, found)
+known_or_unknown id rows (Err at) (Ok n) nonzero gap said why = absurd said
+known_or_unknown id rows (Err at) (Err other) nonzero gap said why =
+    unknown id rows at gap nonzero ∙ ap Some (sym (why at other said))
+
+-- the rows after a row was put in where it belongs, or not for want of room
+pub tidy_after :
+    {N : ℕ} {E : Type 0} (new : Row) (before after : ShortList Row N) (at : ℕ) (r : Result (Unit {0}) E) →
+    BelongsAt new.id (items_of before) at → 1 ≤ new.id → is_fair new.figures ≡ true → tidy 1 (items_of before) ≡ true →
+    OnOk r (items_of after ≡ insert (items_of before) at new) → OnErr r (after ≡ before) → tidy 1 (items_of after) ≡ true
+tidy_after new before after at (Ok done) gap positive fair ordered put same =
+    ap (tidy 1) (put ∙ sym (entered_here _ (items_of before) at gap new refl))
+    ∙ tidy-entered new 1 (items_of before) positive fair (stands_not _ _ _ gap) ordered
+tidy_after new before after at (Err full) gap positive fair ordered put same =
+    ap (λ list. tidy 1 (items_of list)) same ∙ ordered

@@ -1,9 +1,9 @@
 pub mod Changes
 pub mod Faults
 pub mod Found
+pub mod Lists
 pub mod Loads
 pub mod Ordered
 pub mod Placed
-pub mod Shifts
-pub mod Stored
+pub mod Sought
 pub mod Timely

@@ -1,13 +1,18 @@
 -- Rows in rising order of their ids.
-use Rattle.std.proofs.Common.{◌≡◌, ℕ, zero, suc, ◌+◌, ◌-◌, ◌<◌, ◌≤◌, true, ◌⊎◌, List, [], ◌∷◌, length, get_or, take, drop, Some, None, refl, arith}
+use Rattle.std.proofs.Common.{◌≡◌, ℕ, zero, suc, ◌+◌, ◌-◌, ◌<◌, ◌≤◌, true, ◌⊎◌, List, [], ◌∷◌, length, get_or, Some, None, sym, refl, ap, subst, arith}
+use Rattle.std.proofs.Math.Bool.{Bool-set}
 use Rattle.std.specs.List.{AllByRecursion as All}
-use Rattle.std.proofs.ByRecursion.{All-more}
-use Rattle.std.proofs.lemmas.List.{drop_all}
 use Rattle.std.proofs.lemmas.Bool.Decides.{nat_tests}
+use Rattle.short_list.specs.Items.{items_of}
+use Rattle.short_list.specs.declared.list.ShortList.{ShortList}
 use Rattle.tasks.specs.declared.rows.Row.{Row}
 use Rattle.tasks.specs.Figures.{Fair}
+use Rattle.periods.specs.Multiples.{most_tasks}
+use Rattle.tasks.specs.declared.table.Table.{Table}
 use Rattle.tasks.specs.Rows.{Rising, tidy, id_at}
+use Rattle.tasks.specs.Tables.{rows_of}
 use Rattle.tasks.proofs.Faults.{fair_from_test}
+use Rattle.tasks.proofs.Lists.{few_items}
 
 pub rising_from_tidy : (least : ℕ) (rows : List Row) → tidy least rows ≡ true → Rising least rows
 rising_from_tidy least [] ordered = tt
@@ -38,26 +43,12 @@ all_greater id least [] ordered small = tt
 all_greater id least (row ∷ rows) ordered small =
     (grind (arith, nat_tests), all_greater id (row.id + 1) rows (grind (arith, nat_tests)) (grind (arith, nat_tests)))
 
--- from a greater id on all are greater
-pub greater_from :
-    (id least i : ℕ) (d : Row) (rows : List Row) → tidy least rows ≡ true → i < length rows → id < (get_or rows i d).id →
-    All (λ row. id < row.id) (drop i rows)
-greater_from id least i d [] ordered inside small = absurd (omega arith)
-greater_from id least zero d (row ∷ rows) ordered inside small =
-    (small, all_greater id (row.id + 1) rows (grind (arith, nat_tests)) (omega arith))
-greater_from id least (suc i) d (row ∷ rows) ordered inside small =
-    greater_from id (row.id + 1) i d rows (grind (arith, nat_tests)) (omega arith) small
+-- a table has no more rows than tasks on a controller
+pub few_rows : (table : Table) → length (rows_of table) ≤ most_tasks
+few_rows table = few_items table.rows
 
--- the scan for an id passes one more row that is smaller, and ends with every row passed
-module _ (id : ℕ) (rows : List Row) (i : ℕ) where
-  pub passed_more :
-      (d : Row) → i < length rows → All (λ row. row.id < id) (take i rows) → ((get_or rows i d).id ≡ id → ⊥) →
-      (get_or rows i d).id ≤ id → All (λ row. row.id < id) (take (i + 1) rows)
-  passed_more d inside passed other small = All-more (λ row. row.id < id) rows i d inside passed (omega arith)
-
-  pub passed_all :
-      length rows ≤ i → i ≤ length rows → All (λ row. row.id < id) (take i rows) →
-      All (λ row. row.id < id) (take (length rows) rows) × All (λ row. id < row.id) (drop (length rows) rows)
-  passed_all past within passed =
-      let end : length rows ≡ i = omega arith in
-      (rw end passed, rw (drop_all (length rows) rows (omega arith)) tt)
+-- a table is its rows
+pub same_table : (a b : Table) → a.rows ≡ b.rows → a ≡ b
+same_table a b same =
+    subst (λ (rows : ShortList Row most_tasks). (t : tidy 1 (items_of rows) ≡ true) → ◌≡◌ {A = Table} (record { rows = rows; tidy = t }) b) (sym same)
+    (λ t. ap (λ u. record { rows = b.rows; tidy = u }) (Bool-set _ _ t b.tidy)) a.tidy

@@ -1,13 +1,12 @@
 -- Tasks with their starts: what the tests of a case say.
-use Rattle.std.proofs.Common.{◌≡◌, ℕ, ◌+◌, ◌<◌, ◌≤◌, Bool, true, false, ltb, List, [], ◌∷◌, length, get_or, drop, Some, None, Ok, Err, Decides, Option, Result, refl, ◌∙◌, arith}
+use Rattle.std.proofs.Common.{◌≡◌, ℕ, ◌<◌, ◌≤◌, Bool, true, false, ltb, List, [], ◌∷◌, length, None, Decides, Option, refl, ◌∙◌, arith}
 use lib.ListN.{length-map}
 use Rattle.std.specs.Option.{option_map}
-use Rattle.std.specs.List.{AllByRecursion as All}
-use Rattle.std.proofs.lemmas.List.{at_drop_more}
+use Rattle.std.specs.List.{AllByRecursion as All, list_any}
 use Rattle.std.proofs.lemmas.Bool.{ltb-false, le-ltb}
 use Rattle.std.proofs.lemmas.Bool.Decides.{nat_tests}
 use Rattle.std.proofs.ByRecursion.{Decides-by_and}
-use Rattle.refusals.specs.Answers.{answer, or_else, refuse_if}
+use Rattle.refusals.specs.Answers.{or_else, refuse_if}
 use Rattle.refusals.specs.declared.Refusal.{Refusal}
 use Rattle.refusals.specs.declared.Refusal.TheVariants.{Figures as BadFigures, TooManyTasks, LateStart}
 use Rattle.refusals.specs.declared.TaskFault.{TaskFault}
@@ -15,16 +14,8 @@ use Rattle.periods.specs.Multiples.{most_tasks, longest_common_period, common_pe
 use Rattle.tasks.specs.declared.rows.Timed.{Timed}
 use Rattle.tasks.specs.Figures.{Fair, first_fault}
 use Rattle.tasks.specs.Loads.{periods_in}
-use Rattle.tasks.specs.Timed.{Timely, is_timely, are_timely, Sound, any_row, first_fault_in, starts_late, figures_given, case_refusal}
+use Rattle.tasks.specs.Timed.{Timely, is_timely, are_timely, Sound, first_fault_in, starts_late, figures_given, case_refusal}
 use Rattle.tasks.proofs.Faults.{none_from_fair, fair_from_test, test_from_fair}
-
--- the search for a row that passes a test
-module _ (test : Timed → Bool) (rows : List Timed) (i : ℕ) (d : Timed) where
-  pub any_here : i < length rows → test (get_or rows i d) ≡ true → any_row test (drop i rows) ≡ true
-  any_here inside here = at_drop_more (any_row test) rows i d inside ∙ grind (arith, nat_tests)
-
-  pub any_later : i < length rows → test (get_or rows i d) ≡ false → any_row test (drop i rows) ≡ any_row test (drop (i + 1) rows)
-  any_later inside absent = at_drop_more (any_row test) rows i d inside ∙ grind (arith, nat_tests)
 
 pub fair_from_no_fault : (rows : List Timed) → first_fault_in rows ≡ None → All (λ row. Fair row.figures) rows
 unfolding first_fault_in
@@ -32,7 +23,7 @@ fair_from_no_fault [] none = tt
 fair_from_no_fault (row ∷ rows) none =
     (grind (arith, nat_tests), fair_from_no_fault rows (grind (arith, nat_tests)))
 
-timely_from_fair : (rows : List Timed) → All (λ row. Fair row.figures) rows → any_row starts_late rows ≡ false → All Timely rows
+timely_from_fair : (rows : List Timed) → All (λ row. Fair row.figures) rows → list_any starts_late rows ≡ false → All Timely rows
 timely_from_fair [] fair none = tt
 timely_from_fair (row ∷ rows) fair none =
     ((fair.0, grind (arith, nat_tests)), timely_from_fair rows fair.1 (grind (arith, nat_tests)))
@@ -44,7 +35,7 @@ no_fault_from_timely (row ∷ rows) timely =
     let ih = no_fault_from_timely rows timely.1 in
     let none = none_from_fair row.figures timely.0.0 in grind (arith, nat_tests)
 
-none_late_from_timely : (rows : List Timed) → All Timely rows → any_row starts_late rows ≡ false
+none_late_from_timely : (rows : List Timed) → All Timely rows → list_any starts_late rows ≡ false
 none_late_from_timely [] timely = refl
 none_late_from_timely (row ∷ rows) timely = let ih = none_late_from_timely rows timely.1 in grind (arith, nat_tests)
 
@@ -96,7 +87,7 @@ timely_from_test_all rows test = each_timely rows ((decides_timely rows).0 test)
 -- no refusal exactly where the rows are sound
 pub sound_from_none : (rows : List Timed) → case_refusal rows ≡ None → Sound rows
 sound_from_none rows none =
-    let passed = parts (first_fault_in rows) (ltb most_tasks (length rows)) (any_row starts_late rows) (period_refusal (periods_in (figures_given rows))) none in
+    let passed = parts (first_fault_in rows) (ltb most_tasks (length rows)) (list_any starts_late rows) (period_refusal (periods_in (figures_given rows))) none in
     let period = period_none (periods_in (figures_given rows)) passed.2 in
     record {
       some = omega (arith, period.0, length_periods rows);
@@ -106,18 +97,14 @@ sound_from_none rows none =
       short = period.1;
     }
 
+pub no_refusal :
+    (rows : List Timed) → first_fault_in rows ≡ None → length rows ≤ most_tasks →
+    period_refusal (periods_in (figures_given rows)) ≡ None → list_any starts_late rows ≡ false → case_refusal rows ≡ None
+no_refusal rows fair few period timely = rw (fair, le-ltb most_tasks (length rows) few, period, timely)
+
 pub none_from_sound : (rows : List Timed) → Sound rows → case_refusal rows ≡ None
 none_from_sound rows sound =
     let timely = all_timely rows sound.fair sound.timely in
-    rw (
-      no_fault_from_timely rows timely,
-      le-ltb most_tasks (length rows) sound.few,
-      none_period (periods_in (figures_given rows)) (omega (arith, sound.some, length_periods rows)) sound.short,
-      none_late_from_timely rows timely,
-    )
-
-pub none_from_ok : (o : Option Refusal) → ◌≡◌ {A = Result (Unit {0}) Refusal} (Ok tt) (answer o tt) → o ≡ None
-none_from_ok o ok = grind arith
-
-pub some_from_err : (o : Option Refusal) (refusal : Refusal) → ◌≡◌ {A = Result (Unit {0}) Refusal} (Err refusal) (answer o tt) → o ≡ Some refusal
-some_from_err o refusal err = grind arith
+    no_refusal rows (no_fault_from_timely rows timely) sound.few
+    (none_period (periods_in (figures_given rows)) (omega (arith, sound.some, length_periods rows)) sound.short)
+    (none_late_from_timely rows timely)

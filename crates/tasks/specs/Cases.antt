@@ -1,7 +1,8 @@
 -- A case, and what forming one answers.
-use Rattle.std.specs.Prelude.{◌≡◌, ℕ, ◌<◌, ◌≤◌, List, map, length, take, Some, None, Option, Result, slice_index, slice_index_or}
+use Rattle.std.specs.Prelude.{◌≡◌, ℕ, ◌<◌, ◌≤◌, List, map, length, Some, None, Option, Result, slice_index, slice_index_or}
 use Rattle.refusals.specs.Answers.{AnswersWith}
 use Rattle.refusals.specs.declared.Refusal.{Refusal}
+use Rattle.short_list.specs.Items.{items_of}
 use Rattle.tasks.specs.declared.case.Case.{Case}
 use Rattle.tasks.specs.declared.figures.Figures.{Figures}
 use Rattle.tasks.specs.declared.rows.Timed.{Timed}
@@ -10,7 +11,7 @@ use Rattle.tasks.specs.Timed.{figures_given, case_refusal}
 
 -- the tasks of a case, in their places
 abbrev pub timed_of : Case → List Timed
-timed_of case = take case.count case.rows
+timed_of case = items_of case.rows
 
 -- a case of these rows, or why there is none
 abbrev pub Formed : List Timed → Result Case Refusal → Type 0

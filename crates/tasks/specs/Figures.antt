@@ -1,5 +1,6 @@
 -- The figures of a task, and what can be wrong with them.
-use Rattle.std.specs.Prelude.{◌≤◌, Bool, cond, ◌&&◌, List, [], ◌∷◌, Some, None, Option, ◌==◌, nat_le, nat_lt}
+use Rattle.std.specs.Prelude.{◌≤◌, Bool, ◌&&◌, List, [], ◌∷◌, Option, ◌==◌, nat_le, nat_lt}
+use Rattle.std.specs.List.{find}
 use Rattle.refusals.specs.declared.TaskFault.{TaskFault}
 use Rattle.refusals.specs.declared.TaskFault.TheVariants.{NoWork, LongPeriod, LateDeadline, LongWork}
 use Rattle.periods.specs.Multiples.{longest_period}
@@ -24,11 +25,6 @@ breaks f LongWork = nat_lt f.deadline f.work
 abbrev pub faults : List TaskFault
 faults = NoWork ∷ LongPeriod ∷ LateDeadline ∷ LongWork ∷ []
 
--- the first of some faults that is there
-abbrev pub first_of : (TaskFault → Bool) → List TaskFault → Option TaskFault
-first_of there [] = None
-first_of there (fault ∷ more) = cond (there fault) (Some fault) (first_of there more)
-
 -- the fault that is told: the first one there
 unfoldable pub first_fault : Figures → Option TaskFault
-first_fault f = first_of (breaks f) faults
+first_fault f = find (breaks f) faults

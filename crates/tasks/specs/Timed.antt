@@ -1,7 +1,7 @@
 -- Tasks with their starts, and why they may not form a case.
-use Rattle.std.specs.Prelude.{◌<◌, ◌≤◌, Bool, true, false, ◌&&◌, ◌||◌, List, [], ◌∷◌, map, length, Option, nat_le, nat_lt}
+use Rattle.std.specs.Prelude.{◌<◌, ◌≤◌, Bool, ◌&&◌, List, map, length, Option, nat_le, nat_lt}
 use Rattle.std.specs.Option.{option_map}
-use Rattle.std.specs.List.{AllByRecursion}
+use Rattle.std.specs.List.{AllByRecursion, find, list_any, list_all}
 use Rattle.refusals.specs.Answers.{or_else, refuse_if}
 use Rattle.refusals.specs.declared.Refusal.{Refusal}
 use Rattle.refusals.specs.declared.Refusal.TheVariants.{Figures as BadFigures, TooManyTasks, LateStart}
@@ -9,7 +9,7 @@ use Rattle.refusals.specs.declared.TaskFault.{TaskFault}
 use Rattle.periods.specs.Multiples.{most_tasks, longest_common_period, common_period, period_refusal}
 use Rattle.tasks.specs.declared.figures.Figures.{Figures}
 use Rattle.tasks.specs.declared.rows.Timed.{Timed}
-use Rattle.tasks.specs.Figures.{Fair, is_fair, breaks, faults, first_of}
+use Rattle.tasks.specs.Figures.{Fair, is_fair, breaks, faults}
 use Rattle.tasks.specs.Loads.{periods_in}
 
 -- the figures of the tasks, in their places
@@ -25,8 +25,7 @@ abbrev pub is_timely : Timed → Bool
 is_timely row = is_fair row.figures && nat_lt row.start row.figures.period
 
 abbrev pub are_timely : List Timed → Bool
-are_timely [] = true
-are_timely (row ∷ rows) = is_timely row && are_timely rows
+are_timely rows = list_all is_timely rows
 
 -- what a case is: one to eight such rows, with a common period that is not too long
 pub record Sound (rows : List Timed) : Type 0 where
@@ -36,14 +35,9 @@ pub record Sound (rows : List Timed) : Type 0 where
   pub timely : AllByRecursion (λ row. row.start < row.figures.period) rows
   pub short : common_period (periods_in (figures_given rows)) ≤ longest_common_period
 
--- some row passes a test
-abbrev pub any_row : (Timed → Bool) → List Timed → Bool
-any_row test [] = false
-any_row test (row ∷ rows) = test row || any_row test rows
-
 -- the first fault that any row has
 unfoldable pub first_fault_in : List Timed → Option TaskFault
-first_fault_in rows = first_of (λ fault. any_row (λ row. breaks row.figures fault) rows) faults
+first_fault_in rows = find (λ fault. list_any (λ row. breaks row.figures fault) rows) faults
 
 -- the start is not below the period
 abbrev pub starts_late : Timed → Bool
@@ -55,4 +49,4 @@ abbrev pub case_refusal : List Timed → Option Refusal
 case_refusal rows =
     or_else (option_map BadFigures (first_fault_in rows))
     (or_else (refuse_if (nat_lt most_tasks (length rows)) TooManyTasks)
-    (or_else (period_refusal (periods_in (figures_given rows))) (refuse_if (any_row starts_late rows) LateStart)))
+    (or_else (period_refusal (periods_in (figures_given rows))) (refuse_if (list_any starts_late rows) LateStart)))

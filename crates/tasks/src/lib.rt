@@ -3,6 +3,7 @@
 
 mod case;
 mod figures;
+mod judged;
 mod places;
 mod rows;
 mod table;
@@ -12,7 +13,8 @@ mod tests;
 
 pub use case::Case;
 pub use figures::Figures;
+pub use judged::Judged;
 pub use places::Places;
-pub use rows::{Row, Timed};
+pub use rows::{HasFigures, Row, Timed, periods_of};
 pub use table::Table;
 pub use task::{Task, TimedTask};

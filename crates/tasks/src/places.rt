@@ -6,7 +6,7 @@ use periods::MOST_TASKS;
 
 mod calls;
 
-// Some of the places 0 to 7.
+// Some of the places 0 to 7. An answer for each place: a set in fixed memory, with none to keep in order.
 #[derive(Clone, Copy)]
 pub struct Places {
     has: [bool; MOST_TASKS],

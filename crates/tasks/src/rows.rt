@@ -1,31 +1,32 @@
 // Rows of tables and cases: figures of a task with what belongs to them.
-ghost use Rattle.std.specs.Prelude.{◌≡◌, ◌≤◌, map, length};
+ghost use Rattle.std.specs.Prelude.{◌≡◌, ◌≤◌, map, length, IfOk, IsOk};
 ghost use Rattle.std.specs.List.{AllByRecursion};
+ghost use Rattle.std.specs.Result.{result_err};
 ghost use Rattle.periods.specs.Multiples.{most_tasks};
-ghost use Rattle.periods.specs.Rows.{periods_of as held_periods};
+ghost use Rattle.periods.specs.Rows.{periods_of as held_periods, first_not_taken};
 ghost use Rattle.tasks.specs.Figures.{Fair};
 ghost use Rattle.tasks.specs.Loads.{periods_in};
 ghost use Rattle.tasks.specs.declared.figures.Figures.{Figures};
 
 use crate::figures::Figures;
-use periods::Periods;
+use periods::{NotTaken, Periods};
 
 // A row of a table: the task with this id.
-#[derive(Clone, Copy, PartialEq, Eq, Debug)]
+#[derive(Clone, Copy, PartialEq, Eq, Debug, Default)]
 pub struct Row {
     pub id: u8,
     pub figures: Figures,
 }
 
 // A row of a case: a task whose first request falls at its start.
-#[derive(Clone, Copy, PartialEq, Eq, Debug)]
+#[derive(Clone, Copy, PartialEq, Eq, Debug, Default)]
 pub struct Timed {
     pub figures: Figures,
     pub start: u16,
 }
 
 // Rows of either kind.
-pub(crate) trait HasFigures {
+pub trait HasFigures {
     ghost has: { Self → Figures };
 
     fn figures(&self) -> Figures
@@ -48,15 +49,16 @@ impl HasFigures for Timed {
     }
 }
 
-// The periods of fair rows, of which there are no more than tasks on a controller.
-pub(crate) fn periods_of<R: HasFigures>(rows: &[R]) -> Periods
-    requires few { length rows.now ≤ most_tasks }
-    requires fair { AllByRecursion (λ row. Fair (R.HasFigures.has row)) rows.now }
-    ensures { held_periods result ≡ periods_in (map R.HasFigures.has rows.now) }
+// The periods of rows, in their places, unless one of them is not taken; of fair rows all are, if they are no more than
+// tasks on a controller.
+pub fn periods_of<R: HasFigures>(rows: &[R]) -> Result<Periods, NotTaken>
+    ensures why { result_err result ≡ first_not_taken (periods_in (map R.HasFigures.has rows.now)) }
+    ensures ok { IfOk result (λ periods. held_periods periods ≡ periods_in (map R.HasFigures.has rows.now)) }
+    ensures fair { length rows.now ≤ most_tasks → AllByRecursion (λ row. Fair (R.HasFigures.has row)) rows.now → IsOk result }
 {
     let mut periods = Periods::new();
     for row in rows {
-        periods.add(row.figures().period);
+        periods.add(row.figures().period)?;
     }
-    periods
+    Ok(periods)
 }

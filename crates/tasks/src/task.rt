@@ -2,7 +2,7 @@
 ghost use Rattle.std.specs.Prelude.{◌≡◌, Some, None, MatchResult};
 ghost use Rattle.tasks.specs.Figures.{Fair, first_fault};
 
-use crate::figures::{FAULTS, Figures};
+use crate::figures::Figures;
 use refusals::TaskFault;
 
 // A task whose figures are fair, whoever formed it.
@@ -25,12 +25,10 @@ impl Task {
         ensures cases { MatchResult result (λ task. (first_fault figures ≡ None) × (task.figures ≡ figures)) (λ fault. first_fault figures ≡ Some fault) }
         ensures fair { (first_fault figures ≡ None → Fair figures) × (Fair figures → first_fault figures ≡ None) }
     {
-        for fault in FAULTS {
-            if figures.breaks(fault) {
-                return Err(fault);
-            }
+        match figures.first_fault() {
+            Some(fault) => Err(fault),
+            None => Ok(Task { figures }),
         }
-        Ok(Task { figures })
     }
 
     // A task of figures that are known to be fair.

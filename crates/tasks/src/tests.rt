@@ -1,18 +1,11 @@
-use crate::{Case, Figures, Table, Task, Timed};
+use crate::{Case, Figures, Table, Task, Timed, periods_of};
+use periods::NotTaken;
 use refusals::{Refusal, TaskFault};
 use std::test::Fail;
 
-fn figures(work: u16, period: u16, deadline: u16) -> Figures {
-    Figures {
-        work,
-        period,
-        deadline,
-    }
-}
-
 fn timed(work: u16, period: u16, start: u16) -> Timed {
     Timed {
-        figures: figures(work, period, period),
+        figures: Figures::new(work, period, period),
         start,
     }
 }
@@ -20,42 +13,45 @@ fn timed(work: u16, period: u16, start: u16) -> Timed {
 fn full() -> Result<Table, Fail> {
     let mut table = Table::new();
     for id in 1..9 {
-        table.enter(id, figures(1, 2, 2))?;
+        table.enter(id, Figures::new(1, 2, 2))?;
     }
     Ok(table)
 }
 
 #[test]
 fn says_the_first_fault(rt: HostRuntime) {
-    assert_eq!(rt; Task::form(figures(0, 0, 0)).err(), Some(TaskFault::NoWork));
     assert_eq!(rt;
-        Task::form(figures(1, 0, 0)).err(),
+        Task::form(Figures::new(0, 0, 0)).err(),
+        Some(TaskFault::NoWork)
+    );
+    assert_eq!(rt;
+        Task::form(Figures::new(1, 0, 0)).err(),
         Some(TaskFault::LongWork)
     );
     assert_eq!(rt;
-        Task::form(figures(1, 0, 1)).err(),
+        Task::form(Figures::new(1, 0, 1)).err(),
         Some(TaskFault::LateDeadline)
     );
     assert_eq!(rt;
-        Task::form(figures(3_000, 2_001, 2_500)).err(),
+        Task::form(Figures::new(3_000, 2_001, 2_500)).err(),
         Some(TaskFault::LongPeriod)
     );
-    assert_eq!(rt; Task::form(figures(2_000, 2_000, 2_000)).err(), None);
+    assert_eq!(rt; Task::form(Figures::new(2_000, 2_000, 2_000)).err(), None);
 }
 
 #[test]
 fn keeps_the_order_of_the_ids(rt: HostRuntime) -> Result<(), Fail> {
     let mut table = Table::new();
-    table.enter(9, figures(1, 12, 12))?;
-    table.enter(4, figures(3, 8, 8))?;
-    table.enter(7, figures(6, 12, 12))?;
+    table.enter(9, Figures::new(1, 12, 12))?;
+    table.enter(4, Figures::new(3, 8, 8))?;
+    table.enter(7, Figures::new(6, 12, 12))?;
     assert_eq!(rt; table.place(9), Ok(3));
     table.strike(4)?;
-    table.amend(9, figures(2, 24, 24))?;
+    table.amend(9, Figures::new(2, 24, 24))?;
     assert_eq!(rt; table.id_at(1), Some(7));
     assert_eq!(rt; table.id_at(3), None);
     assert_eq!(rt; table.place(9), Ok(2));
-    assert_eq!(rt; table.figures(9), Ok(figures(2, 24, 24)));
+    assert_eq!(rt; table.figures(9), Ok(Figures::new(2, 24, 24)));
     assert_eq!(rt; table.figures(4), Err(Refusal::UnknownId));
     Ok(())
 }
@@ -63,7 +59,7 @@ fn keeps_the_order_of_the_ids(rt: HostRuntime) -> Result<(), Fail> {
 #[test]
 fn refuses_by_the_smaller_number(rt: HostRuntime) -> Result<(), Fail> {
     let mut table = full()?;
-    let none = figures(0, 0, 0);
+    let none = Figures::new(0, 0, 0);
     assert_eq!(rt; table.enter(0, none), Err(Refusal::ZeroId));
     assert_eq!(rt; table.enter(3, none), Err(Refusal::StandingId));
     assert_eq!(rt;
@@ -71,7 +67,7 @@ fn refuses_by_the_smaller_number(rt: HostRuntime) -> Result<(), Fail> {
         Err(Refusal::Figures(TaskFault::NoWork))
     );
     assert_eq!(rt;
-        table.enter(9, figures(1, 2, 2)),
+        table.enter(9, Figures::new(1, 2, 2)),
         Err(Refusal::TooManyTasks)
     );
     assert_eq!(rt; table.amend(9, none), Err(Refusal::UnknownId));
@@ -84,12 +80,20 @@ fn refuses_by_the_smaller_number(rt: HostRuntime) -> Result<(), Fail> {
 fn reckons_period_load_and_choices(rt: HostRuntime) -> Result<(), Fail> {
     let mut table = Table::new();
     assert_eq!(rt; table.load(), Err(Refusal::NoTask));
-    table.enter(1, figures(3, 8, 8))?;
-    table.enter(2, figures(6, 12, 12))?;
-    table.enter(3, figures(1, 12, 12))?;
+    table.enter(1, Figures::new(3, 8, 8))?;
+    table.enter(2, Figures::new(6, 12, 12))?;
+    table.enter(3, Figures::new(1, 12, 12))?;
     assert_eq!(rt; table.common_period(), Ok(24));
     assert_eq!(rt; table.load(), Ok(23));
     assert_eq!(rt; table.choices()?.count(), 48);
+    Ok(())
+}
+
+#[test]
+fn gathers_the_periods_of_rows(rt: HostRuntime) -> Result<(), Fail> {
+    let row = timed(1, 12, 0);
+    assert_eq!(rt; periods_of(&[timed(1, 8, 0), row])?.common_period(), Ok(24));
+    assert_eq!(rt; periods_of(&[row; 9]).err(), Some(NotTaken::NoPlace));
     Ok(())
 }
 

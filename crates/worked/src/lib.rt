@@ -18,11 +18,7 @@ fn row(id: u8, work: u16, period: u16, start: u16) -> SheetRow
 {
     SheetRow {
         id,
-        figures: Figures {
-            work,
-            period,
-            deadline: period,
-        },
+        figures: Figures::new(work, period, period),
         start,
         level: id,
     }

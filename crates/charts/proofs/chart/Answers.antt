@@ -1,9 +1,8 @@
-use Rattle.std.proofs.Common.{rules}
 use Rattle.charts.proofs.Windows.{one_chart}
 use Rattle.charts.proofs.chart.Goals as goal
 
-pub returns-then-from-to : goal.returns-then-from-to
-returns-then-from-to c = record { charted = search rules; one = one_chart _ _ _; slice = search rules }
+pub returns-then-window-clause-one : goal.returns-then-window-clause-one
+returns-then-window-clause-one c = one_chart _ _ _
 
-pub returns : goal.returns
-returns c = record { charted = search rules; one = one_chart _ _ _; slice = search rules }
+pub returns-clause-one : goal.returns-clause-one
+returns-clause-one c = one_chart _ _ _

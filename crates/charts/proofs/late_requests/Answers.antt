@@ -7,7 +7,6 @@ pub returns : goal.returns
 returns c =
     let of = c.of.ensures in
     record {
-      listed = told_as _ _ (all_ahead c.of.result _ of.rows of.tick of.place) _ _ _ c.fill.ensures.listed;
+      listed = told_as _ _ (all_ahead c.of.result _ of.sheet of.tick of.place) _ _ _ c.fill.ensures;
       one = one_order _;
-      slice = c.fill.ensures.slice;
     }

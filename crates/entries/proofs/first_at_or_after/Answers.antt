@@ -1,20 +1,18 @@
-use Rattle.std.proofs.Common.{arith, below_more}
-use Rattle.std.proofs.lemmas.List.{length-map}
-use Rattle.entries.proofs.Ticks.{tick_at, found_at}
+use Rattle.std.proofs.Common.{◌≡◌, ◌+◌, ◌<◌, ◌≤◌, rules, sym, subst}
+use borrow.Author.Tests.{tests}
+use Rattle.std.specs.Option.{option_map}
+use Rattle.std.proofs.lemmas.Iterator.{IsFirst-from_position, YieldsList-from_slice}
+use Rattle.entries.specs.Ticks.{FirstAtOrAfter}
+use Rattle.entries.proofs.Ticks.{placed}
 use Rattle.entries.proofs.first_at_or_after.Goals as goal
 
--- the entry read last is at or after
-pub returns-then-tick : goal.returns-then-tick
-returns-then-tick g c =
-    let here = tick_at g.E.Ticked.when c.args.entries.now c.loop-i.i c.loop-i-test.true c.index-entries-i.is in
-    found_at _ _ c.loop-i.i (simp length-map (omega arith)) (omega arith) c.loop-i.invariant
-
--- the entry read last is before
-pub loop-i-preserved : goal.loop-i-preserved
-loop-i-preserved g c =
-    let here = tick_at g.E.Ticked.when c.args.entries.now c.loop-i.i c.loop-i-test.true c.index-entries-i.is in
-    below_more _ _ c.loop-i.invariant (omega arith)
-
--- all were read
 pub returns : goal.returns
-returns g c = λ k h. c.loop-i.invariant k (omega (arith, length-map c.args.entries.now g.E.Ticked.when))
+returns g c =
+    let when = g.E.Ticked.when in
+    let entries = c.args.entries.now in
+    let tick = c.args.tick in
+    let place : c.map.result ≡ option_map (λ i. i + 1) c.position.result = search rules in
+    subst (FirstAtOrAfter _ tick) (sym place)
+    (placed when entries tick c.position.result
+    (IsFirst-from_position _ _ c.position.result (λ e. tick ≤ when e) (λ e. when e < tick) c.position.ensures.ran (YieldsList-from_slice entries cc)
+    (λ x q k. search (rules, tests)) (λ x q k. search (rules, tests))))

@@ -1,6 +1,6 @@
 // What one can do with a list.
 ghost use Rattle.std.specs.Prelude.{◌≡◌, [], length, ◌==◌};
-ghost use Rattle.entries.specs.Lists.{held, slice_of, slots_of, Added, Filled, EmptiedFor};
+ghost use Rattle.entries.specs.Lists.{held, slice_of, slots_of, Added, Filled, EmptiedFor, Refilled};
 
 use super::List;
 use refusals::Refusal;
@@ -43,8 +43,7 @@ impl<'a, E: Copy> List<'a, E> {
 
     // Adds an entry behind the others, unless the slice is full.
     pub fn add(&mut self, entry: E) -> Result<(), Refusal>
-        ensures added { Added self.old entry result self.new }
-        ensures slice { slice_of self.new ≡ slice_of self.old }
+        ensures { Added self.old entry result self.new }
     {
         if self.len == self.capacity() {
             return Err(Refusal::ListTooShort);
@@ -56,16 +55,14 @@ impl<'a, E: Copy> List<'a, E> {
 
     // Empties the list; its slots keep their content.
     pub fn clear(&mut self)
-        ensures empty { Filled (slots_of self.old) [] self.new }
-        ensures slice { slice_of self.new ≡ slice_of self.old }
+        ensures { Refilled self.old [] self.new }
     {
         self.len = 0;
     }
 
     // Empties the list for so many entries, unless its slice is too short for them.
     pub fn clear_for(&mut self, count: usize) -> Result<(), Refusal>
-        ensures emptied { EmptiedFor self.old count result self.new }
-        ensures slice { slice_of self.new ≡ slice_of self.old }
+        ensures { EmptiedFor self.old count result self.new }
     {
         if count > self.capacity() {
             return Err(Refusal::ListTooShort);

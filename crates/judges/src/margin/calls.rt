@@ -2,7 +2,6 @@
 ghost use Rattle.std.specs.Prelude.{◌≡◌, ◌<◌, ◌≤◌, MatchResult};
 ghost use Rattle.refusals.specs.declared.Refusal.TheVariants.{LargeMargin};
 ghost use Rattle.periods.specs.Multiples.{longest_period};
-ghost use Rattle.tasks.specs.Places.{has};
 ghost use Rattle.judges.specs.Margin.{largest_margin, stretch as stretched_work, StretchedCase, NoMargin, WithMargin, ReckonsWithMargin};
 ghost use Rattle.judges.specs.MarginLaws.{margin_lawful, margin_measured};
 
@@ -10,7 +9,8 @@ use crate::judge::{Judge, MeasuringJudge};
 use crate::margin::Margin;
 use periods::MOST_TASKS;
 use refusals::Refusal;
-use tasks::{Case, Figures, Places, Timed};
+use short_list::ShortList;
+use tasks::{Case, Judged, Timed};
 
 const LARGEST_MARGIN: u16 = 100;
 
@@ -32,9 +32,10 @@ impl<J: Judge> Judge for Margin<J> {
 
     ghost lawful = { λ judge. margin_lawful judge.percent (J.Judge.meaning judge.judge) (J.Judge.lawful judge.judge) };
 
-    fn rule(&self, case: &Case, judged: usize, above: &Places) -> bool {
-        match stretched_case(self.percent, case, judged, above) {
-            Some(changed) => self.judge.rule(&changed, judged, above),
+    fn rule(&self, judged: Judged) -> bool {
+        // A match: with `is_some_and` what the rule ensures was not proved.
+        match stretched_case(self.percent, judged) {
+            Some(changed) => self.judge.rule(changed.judged(judged.place, judged.above)),
             None => false,
         }
     }
@@ -47,34 +48,28 @@ impl<J: MeasuringJudge> MeasuringJudge for Margin<J> {
         margin_measured judge.percent (J.Judge.meaning judge.judge) (J.Judge.lawful judge.judge)
         (J.MeasuringJudge.reckons judge.judge) (J.MeasuringJudge.measured judge.judge) };
 
-    fn response(&self, case: &Case, judged: usize, above: &Places) -> Option<u32> {
-        let changed = stretched_case(self.percent, case, judged, above)?;
-        self.judge.response(&changed, judged, above)
+    fn response(&self, judged: Judged) -> Option<u32> {
+        let changed = stretched_case(self.percent, judged)?;
+        self.judge
+            .response(changed.judged(judged.place, judged.above))
     }
 }
 
 // The case with more work, unless some work then passes its deadline.
-fn stretched_case(percent: u16, case: &Case, judged: usize, above: &Places) -> Option<Case>
+fn stretched_case(percent: u16, judged: Judged) -> Option<Case>
     requires { percent ≤ largest_margin }
-    ensures { StretchedCase percent case.now judged (has above.now) result }
+    ensures { StretchedCase percent judged.entry result }
 {
-    let rows = case.rows();
-    let none = Timed {
-        figures: Figures {
-            work: 0,
-            period: 0,
-            deadline: 0,
-        },
-        start: 0,
-    };
-    let mut changed = [none; MOST_TASKS];
+    let rows = judged.case.rows();
+    let mut changed = ShortList::<Timed, MOST_TASKS>::new();
     for (place, row) in rows.iter().enumerate() {
-        changed[place] = *row;
-        if place == judged || above.contains(place) {
-            changed[place].figures.work = stretch(percent, row.figures.work);
+        let mut row = *row;
+        if place == judged.place || judged.above.contains(place) {
+            row.figures.work = stretch(percent, row.figures.work);
         }
+        changed.push(row).unwrap();
     }
-    Case::form(&changed[0..rows.len()]).ok()
+    Case::form(&changed).ok()
 }
 
 // So many percent more, rounded up.

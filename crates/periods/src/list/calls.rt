@@ -7,6 +7,7 @@ use crate::list::Choices;
 use crate::row::Periods;
 use crate::{MOST_CHOICES, MOST_TASKS, gcd, lcm};
 use refusals::Refusal;
+use short_list::ShortList;
 
 impl Periods {
     // The list of the choices of starts: every other choice is related to one of these.
@@ -16,23 +17,22 @@ impl Periods {
         ensures number { ChoicesTimesPeriod (periods_of self.now) }
     {
         self.common_period()?;
-        let mut radix = [0; MOST_TASKS];
+        let mut radices = ShortList::new();
         let mut total = 1;
         let mut common = 1;
-        let periods = self.as_slice();
-        for (place, period) in periods.iter().enumerate() {
+        for period in self.as_slice() {
             let period = u32::from(*period);
             let shared = gcd(period, common);
             total *= shared;
             if total > MOST_CHOICES {
                 return Err(Refusal::TooManyChoices);
             }
-            radix[place] = shared as u16;
+            radices.push(shared as u16).unwrap();
             common = lcm(common, period);
         }
         Ok(Choices {
             periods: *self,
-            radix,
+            radices,
             total,
         })
     }
@@ -46,7 +46,7 @@ impl Choices {
         self.total
     }
 
-    // The start of each place in the choice of a rank, counted from 0.
+    // The start of each place in the choice of a rank, counted from 0; 0 in the places without a task.
     pub fn starts(&self, rank: u32) -> Option<[u16; MOST_TASKS]>
         ensures value { result ≡ starts_of (listed_periods self.now) rank }
         ensures ranks { RanksListTheChoices (listed_periods self.now) }
@@ -57,8 +57,8 @@ impl Choices {
         let mut starts = [0; MOST_TASKS];
         let mut rest = rank;
         let mut weight = self.total;
-        let radices = &self.radix[..self.periods.as_slice().len()];
-        for (place, radix) in radices.iter().enumerate() {
+        // By place: nothing is known in a proof of what a zip with `starts.iter_mut()` wrote.
+        for (place, radix) in self.radices.iter().enumerate() {
             weight /= u32::from(*radix);
             starts[place] = (rest / weight) as u16;
             rest %= weight;

@@ -1,109 +1,77 @@
 // The calls of an order.
-ghost use Rattle.std.specs.Prelude.{◌≡◌, ℕ, ◌<◌, ◌≤◌, min, if◌then◌else◌, Some, None, nat_lt, slice_index};
+ghost use Rattle.std.specs.Prelude.{◌≡◌, ℕ, ◌<◌, ◌≤◌, ◌==◌, min, if◌then◌else◌, length, Some, None, nat_lt};
+ghost use Rattle.std.specs.List.{position as first_position};
 ghost use Rattle.periods.specs.Multiples.{most_tasks};
 ghost use Rattle.tasks.specs.Places.{has};
-ghost use Rattle.planner.specs.Orders.{Exchanged, place_at, position_of, level_of};
+ghost use Rattle.planner.specs.Orders.{Exchanged, places_of, place_at, position_of, level_of};
 
 use crate::order::Order;
 use periods::MOST_TASKS;
+use short_list::ShortList;
 use tasks::Places;
 
 impl Order {
     // The first places in their order; a count above eight is taken as eight.
     pub fn new(count: usize) -> Order
-        ensures count { result.count ≡ min count most_tasks }
-        ensures places { (place : ℕ) → place < result.count → place_at result place ≡ place }
+        ensures count { length (places_of result) ≡ min count most_tasks }
+        ensures places { (place : ℕ) → place < length (places_of result) → place_at result place ≡ place }
     {
-        Order {
-            at: [0, 1, 2, 3, 4, 5, 6, 7],
-            count: count.min(MOST_TASKS),
+        let mut places = ShortList::<usize, MOST_TASKS>::new();
+        // A range: each place is the number itself.
+        for place in 0..count.min(MOST_TASKS) {
+            places.push(place).unwrap();
         }
+        Order { places }
     }
 
     // How many places are ordered.
     pub fn count(&self) -> usize
-        ensures { result ≡ self.now.count }
+        ensures value { result ≡ length (places_of self.now) }
+        ensures few { result ≤ most_tasks }
     {
-        self.count
+        self.places.as_slice().len()
     }
 
     // The place at a position.
     pub fn place_at(&self, position: usize) -> Option<usize>
-        ensures { result ≡ (if nat_lt position self.now.count then Some (place_at self.now position) else None) }
+        ensures { result ≡ (if nat_lt position (length (places_of self.now)) then Some (place_at self.now position) else None) }
     {
-        if position < self.count {
-            Some(self.place(position))
-        } else {
-            None
-        }
+        self.places.get(position).copied()
     }
 
     // The level of a place.
     pub fn level(&self, place: usize) -> Option<u8>
-        ensures { result ≡ (if nat_lt place self.now.count then Some (level_of self.now place) else None) }
+        ensures { result ≡ (if nat_lt place (length (places_of self.now)) then Some (level_of self.now place) else None) }
     {
-        if place < self.count {
-            Some(self.level_of(place))
-        } else {
-            None
-        }
+        self.position(place).map(|position| position as u8 + 1)
     }
 
-    // The level of each place, with 0 in the places without a task.
-    pub(crate) fn levels(&self) -> [u8; MOST_TASKS]
-        ensures { (place : ℕ) → slice_index result place ≡ (if nat_lt place self.now.count then level_of self.now place else 0) }
+    // The position of a place.
+    pub(crate) fn position(&self, place: usize) -> Option<usize>
+        ensures { result ≡ (if nat_lt place (length (places_of self.now)) then Some (position_of self.now place) else None) }
     {
-        let mut levels = [0; MOST_TASKS];
-        for place in 0..self.count {
-            levels[place] = self.level_of(place);
-        }
-        levels
-    }
-
-    fn level_of(&self, place: usize) -> u8
-        requires { place < self.now.count }
-        ensures { result ≡ level_of self.now place }
-    {
-        self.position(place) as u8 + 1
-    }
-
-    pub(crate) fn place(&self, position: usize) -> usize
-        requires { position < self.now.count }
-        ensures { result ≡ place_at self.now position }
-    {
-        self.at[position]
-    }
-
-    // The position of a place; past the last if the order does not have the place.
-    pub(crate) fn position(&self, place: usize) -> usize
-        ensures { result ≡ position_of self.now place }
-    {
-        for (position, held) in self.at.iter().enumerate() {
-            if *held == place {
-                return position;
-            }
-        }
-        MOST_TASKS
+        self.places.iter().position(|held| *held == place)
     }
 
     // Exchanges the places at two positions.
     pub(crate) fn exchange(&mut self, first: usize, second: usize)
         ensures { Exchanged first second self.old self.new }
     {
-        if first < self.count && second < self.count {
-            self.at.swap(first, second);
+        if let (Some(one), Some(other)) = (self.place_at(first), self.place_at(second)) {
+            self.places.replace(first, other);
+            self.places.replace(second, one);
         }
     }
 
     // The places at the positions before this one.
     pub(crate) fn earlier(&self, position: usize) -> Places
-        requires { position ≤ self.now.count }
-        ensures { (place : ℕ) → place < self.now.count → has result place ≡ nat_lt (position_of self.now place) position }
+        requires { position ≤ length (places_of self.now) }
+        ensures { (place : ℕ) → place < length (places_of self.now) → has result place ≡ nat_lt (position_of self.now place) position }
     {
-        let mut places = Places::none();
-        for i in 0..position {
-            places.add(self.at[i]);
+        let mut earlier = Places::none();
+        for place in &self.places[..position] {
+            earlier.add(*place);
         }
-        places
+        earlier
     }
 }

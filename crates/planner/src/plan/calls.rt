@@ -1,50 +1,46 @@
 // The calls of a plan.
-ghost use Rattle.std.specs.Prelude.{◌≡◌, ℕ, if◌then◌else◌, Some, None, nat_lt};
-ghost use Rattle.planner.specs.Orders.{level_of};
-ghost use Rattle.planner.specs.Plans.{start_at, level_at};
+ghost use Rattle.std.specs.Prelude.{◌≡◌, if◌then◌else◌, Some, None, nat_lt};
+ghost use Rattle.planner.specs.Plans.{given_in, given_by, count_of, start_at, level_at};
 
 use crate::order::Order;
-use crate::plan::Plan;
+use crate::plan::{Assignment, Plan};
 use periods::MOST_TASKS;
+use short_list::ShortList;
 
 impl Plan {
     // A plan of these starts with the levels of an order.
     pub(crate) fn new(starts: [u16; MOST_TASKS], order: &Order) -> Plan
-        ensures starts { result.starts ≡ starts }
-        ensures count { result.count ≡ order.now.count }
-        ensures levels { (place : ℕ) → level_at result place ≡ (if nat_lt place order.now.count then level_of order.now place else 0) }
+        ensures { given_in result ≡ given_by starts order.now }
     {
-        Plan {
-            starts,
-            levels: order.levels(),
-            count: order.count(),
+        let mut given = ShortList::<Assignment, MOST_TASKS>::new();
+        for (place, start) in starts[..order.count()].iter().enumerate() {
+            let level = order.level(place).unwrap();
+            given
+                .push(Assignment {
+                    start: *start,
+                    level,
+                })
+                .unwrap();
         }
+        Plan { given }
     }
 
     // How many tasks are planned.
     pub fn count(&self) -> usize
-        ensures { result ≡ self.now.count }
+        ensures { result ≡ count_of self.now }
     {
-        self.count
+        self.given.as_slice().len()
     }
 
     pub fn start(&self, place: usize) -> Option<u16>
-        ensures { result ≡ (if nat_lt place self.now.count then Some (start_at self.now place) else None) }
+        ensures { result ≡ (if nat_lt place (count_of self.now) then Some (start_at self.now place) else None) }
     {
-        if place < self.count {
-            Some(self.starts[place])
-        } else {
-            None
-        }
+        self.given.get(place).map(|task| task.start)
     }
 
     pub fn level(&self, place: usize) -> Option<u8>
-        ensures { result ≡ (if nat_lt place self.now.count then Some (level_at self.now place) else None) }
+        ensures { result ≡ (if nat_lt place (count_of self.now) then Some (level_at self.now place) else None) }
     {
-        if place < self.count {
-            Some(self.levels[place])
-        } else {
-            None
-        }
+        self.given.get(place).map(|task| task.level)
     }
 }

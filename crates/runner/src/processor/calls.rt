@@ -1,46 +1,45 @@
-ghost use Rattle.std.specs.Prelude.{◌≡◌, ◌&&◌, MatchBool, ◌==◌, nat_le, nat_lt};
-ghost use Rattle.periods.specs.Multiples.{most_tasks};
-ghost use Rattle.runner.specs.Levels.{last_tick};
+ghost use Rattle.std.specs.Prelude.{◌≡◌, MatchResult, Err, Some, None};
+ghost use Rattle.std.specs.Result.{result_err};
+ghost use Rattle.runner.specs.Adding.{not_taken};
+ghost use Rattle.runner.specs.Processor.{count_of, levels_of};
 ghost use Rattle.runner.specs.Running.{Stands, nothing, Added, Advanced};
 ghost use Rattle.runner.specs.Steps.{RequestsTaken, ToRun, Soonest, Spent};
 
 use crate::LAST_TICK;
+use crate::level::Level;
+use crate::not_taken::NotTaken;
 use crate::processor::Processor;
 use crate::span::Span;
-use periods::MOST_TASKS;
+use short_list::ShortList;
 use tasks::Task;
 
 impl Processor {
     // No task, at tick 0.
     pub fn new() -> Processor
         ensures tick { result.tick ≡ 0 }
-        ensures count { result.count ≡ 0 }
+        ensures count { count_of result ≡ 0 }
         ensures stands { Stands nothing result }
     {
         Processor {
             tick: 0,
-            count: 0,
-            work: [0; MOST_TASKS],
-            period: [0; MOST_TASKS],
-            next: [0; MOST_TASKS],
-            left: [0; MOST_TASKS],
+            levels: ShortList::new(),
         }
     }
 
-    // One more task, below the others, before the first tick.
-    pub fn add(&mut self, task: Task, start: u32) -> bool
-        ensures value { result ≡ (self.old.tick == 0 && (nat_lt self.old.count most_tasks && nat_le start last_tick)) }
-        ensures after { MatchBool result (Added self.old task.figures start self.new) (self.new ≡ self.old) }
+    // One more task, below the others, before the first tick; or why it is not taken, and then nothing changes.
+    pub fn add(&mut self, task: Task, start: u32) -> Result<(), NotTaken>
+        ensures value { result_err result ≡ not_taken self.old start }
+        ensures after { MatchResult result (λ _. Added self.old task.figures start self.new) (λ _. self.new ≡ self.old) }
     {
-        if self.tick > 0 || self.count == MOST_TASKS || start > LAST_TICK {
-            return false;
+        if self.tick > 0 {
+            return Err(NotTaken::HasRun);
         }
-        let figures = task.figures();
-        self.work[self.count] = u32::from(figures.work);
-        self.period[self.count] = u32::from(figures.period);
-        self.next[self.count] = start;
-        self.count += 1;
-        true
+        if start > LAST_TICK {
+            return Err(NotTaken::LateStart);
+        }
+        self.levels
+            .push(Level::of(task, start))
+            .map_err(|_| NotTaken::NoLevel)
     }
 
     // Runs from this tick up to another at most, as long as the same level runs. None where it stands there or beyond,
@@ -63,37 +62,26 @@ impl Processor {
 
     // The requests that fall at this tick bring their units.
     fn take_requests(&mut self)
-        ensures { RequestsTaken self.old self.old.count self.new }
+        ensures { RequestsTaken self.old self.new }
     {
-        for level in 0..self.count {
-            if self.next[level] == self.tick {
-                self.left[level] += self.work[level];
-                self.next[level] += self.period[level];
-            }
-        }
+        let tick = self.tick;
+        self.levels.update(|level| level.at(tick));
     }
 
     // The highest level that has a unit.
     fn first_ready(&self) -> Option<usize>
         ensures { ToRun self.now result }
     {
-        for level in 0..self.count {
-            if self.left[level] > 0 {
-                return Some(level);
-            }
-        }
-        None
+        self.levels.iter().position(|level| level.left > 0)
     }
 
     // The soonest of the next requests, or `end` where it comes first.
     fn soonest(&self, end: u32) -> u32
-        ensures { Soonest self.now.next self.now.count end result }
+        ensures { Soonest (levels_of self.now) end result }
     {
-        let mut soonest = end;
-        for level in 0..self.count {
-            soonest = soonest.min(self.next[level]);
-        }
-        soonest
+        self.levels
+            .iter()
+            .fold(end, |soonest, level| soonest.min(level.next))
     }
 
     // The level that is to run spends its units, one in each of so many ticks. Says how many ticks it takes.
@@ -104,8 +92,9 @@ impl Processor {
         let Some(level) = runs else {
             return ticks;
         };
-        let length = ticks.min(self.left[level]);
-        self.left[level] -= length;
+        let ready = self.levels[level];
+        let length = ticks.min(ready.left);
+        self.levels.replace(level, ready.less(length));
         length
     }
 }

@@ -1,7 +1,7 @@
-ghost use Rattle.std.specs.Prelude.{◌≡◌, if◌then◌else◌, Some, None, nat_lt, slice_index};
+ghost use Rattle.std.specs.Prelude.{◌≡◌, if◌then◌else◌, Some, None, nat_lt};
+ghost use Rattle.runner.specs.Processor.{count_of, next_on, left_on};
 
 use crate::processor::Processor;
-use periods::MOST_TASKS;
 
 impl Processor {
     // The tick up to which it has run.
@@ -13,30 +13,22 @@ impl Processor {
 
     // How many levels have a task.
     pub fn count(&self) -> usize
-        ensures { result ≡ self.now.count }
+        ensures { result ≡ count_of self.now }
     {
-        self.count
+        self.levels.as_slice().len()
     }
 
     // The units that a level has left from before this tick.
     pub fn left(&self, level: usize) -> u32
-        ensures { result ≡ slice_index self.now.left level }
+        ensures { result ≡ left_on self.now level }
     {
-        if level < MOST_TASKS {
-            self.left[level]
-        } else {
-            0
-        }
+        self.levels.get(level).map_or(0, |level| level.left)
     }
 
     // The tick of a level's next request.
     pub fn next_request(&self, level: usize) -> Option<u32>
-        ensures { result ≡ (if nat_lt level self.now.count then Some (slice_index self.now.next level) else None) }
+        ensures { result ≡ (if nat_lt level (count_of self.now) then Some (next_on self.now level) else None) }
     {
-        if level < self.count {
-            Some(self.next[level])
-        } else {
-            None
-        }
+        self.levels.get(level).map(|level| level.next)
     }
 }

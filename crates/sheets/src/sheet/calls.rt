@@ -6,11 +6,12 @@ ghost use Rattle.tasks.specs.Timed.{figures_given};
 ghost use Rattle.sheets.specs.Checks.{Sound, timed_in, rows_fault};
 ghost use Rattle.sheets.specs.Sheets.{rows_of, Gives};
 
-use crate::check::{check_rows, periods_of};
+use crate::check::check_rows;
 use crate::fault::SheetFault;
-use crate::row::{BLANK, SheetRow};
+use crate::row::SheetRow;
 use crate::sheet::Sheet;
-use periods::MOST_TASKS;
+use short_list::ShortList;
+use tasks::periods_of;
 
 impl Sheet {
     // A sheet of these rows, or the first fault of theirs.
@@ -18,13 +19,9 @@ impl Sheet {
         ensures value { Gives (rows_fault rows.now) rows.now result }
         ensures sound { (rows_fault rows.now ≡ None → Sound rows.now) × (Sound rows.now → rows_fault rows.now ≡ None) }
     {
-        check_rows(rows)?;
-        let mut all = [BLANK; MOST_TASKS];
-        all[0..rows.len()].copy_from_slice(rows);
-        Ok(Sheet {
-            rows: all,
-            count: rows.len(),
-        })
+        let rows = ShortList::try_from(rows)?;
+        check_rows(rows.as_slice())?;
+        Ok(Sheet { rows })
     }
 
     // The tasks with their starts and levels, in rising order of their ids.
@@ -32,13 +29,13 @@ impl Sheet {
         ensures value { result.now ≡ rows_of self.now }
         ensures sound { Sound result.now }
     {
-        &self.rows[0..self.count]
+        self.rows.as_slice()
     }
 
     // The least common multiple of the tasks' periods.
     pub fn common_period(&self) -> u32
         ensures { result ≡ common_period (periods_in (figures_given (timed_in (rows_of self.now)))) }
     {
-        periods_of(self.rows()).common_period().unwrap()
+        periods_of(self.rows()).unwrap().common_period().unwrap()
     }
 }

@@ -1,14 +1,17 @@
 // A sheet from its bytes.
-ghost use Rattle.std.specs.Prelude.{◌≡◌, ◌*◌, length, Some, MatchResult};
+ghost use Rattle.std.specs.Prelude.{◌≡◌, ◌*◌, ◌/◌, ◌<◌, length, Some, MatchResult};
+ghost use Rattle.short_list.specs.Items.{items_of};
+ghost use Rattle.periods.specs.Multiples.{most_tasks};
 ghost use Rattle.sheets.specs.Bytes.{rows_in, entries_in, header_fault, sheet_fault, RightHeader};
 ghost use Rattle.sheets.specs.Sheets.{Gives, ReadsEncoded};
 
 use crate::check::check_count;
 use crate::fault::SheetFault;
-use crate::row::{BLANK, SheetRow};
+use crate::row::SheetRow;
 use crate::sheet::Sheet;
 use crate::sheet::sizes::{HEADER, TASK_ENTRY, sheet_length};
 use periods::MOST_TASKS;
+use short_list::{Full, ShortList};
 use tasks::Figures;
 
 impl Sheet {
@@ -19,9 +22,8 @@ impl Sheet {
     {
         let count = read_header(bytes)?;
         let (tasks, plans) = bytes[HEADER..].split_at(TASK_ENTRY * count);
-        let mut rows = [BLANK; MOST_TASKS];
-        read_rows(tasks, plans, &mut rows[0..count]);
-        Sheet::form(&rows[0..count])
+        let rows = read_rows(tasks, plans)?;
+        Sheet::form(rows.as_slice())
     }
 }
 
@@ -41,20 +43,17 @@ fn read_header(bytes: &[u8]) -> Result<usize, SheetFault>
     Ok(count)
 }
 
-// The rows of as many entries of each kind.
-fn read_rows(mut tasks: &[u8], mut plans: &[u8], rows: &mut [SheetRow])
-    requires tasks { length tasks.now ≡ 7 * length rows.old }
-    requires plans { length plans.now ≡ 3 * length rows.old }
-    ensures { rows.new ≡ rows_in (length rows.old) tasks.now plans.now }
+// The rows of as many entries of each kind, if there are no more than a sheet holds.
+fn read_rows(mut tasks: &[u8], mut plans: &[u8]) -> Result<ShortList<SheetRow, MOST_TASKS>, Full>
+    requires { length plans.now / 3 ≡ length tasks.now / 7 }
+    ensures { MatchResult result (λ rows. items_of rows ≡ rows_in (length tasks.now / 7) tasks.now plans.now) (λ _. most_tasks < length tasks.now / 7) }
 {
-    for row in rows.iter_mut() {
-        let [id, w1, w0, p1, p0, d1, d0, more_tasks @ ..] = tasks else {
-            unreachable()
-        };
-        let [s1, s0, level, more_plans @ ..] = plans else {
-            unreachable()
-        };
-        *row = SheetRow {
+    let mut rows = ShortList::new();
+    // A fixed form: each entry is matched as named bytes and the rest of the slice.
+    while let [id, w1, w0, p1, p0, d1, d0, more_tasks @ ..] = tasks
+        && let [s1, s0, level, more_plans @ ..] = plans
+    {
+        rows.push(SheetRow {
             id: *id,
             figures: Figures {
                 work: u16::from_be_bytes([*w1, *w0]),
@@ -63,8 +62,9 @@ fn read_rows(mut tasks: &[u8], mut plans: &[u8], rows: &mut [SheetRow])
             },
             start: u16::from_be_bytes([*s1, *s0]),
             level: *level,
-        };
+        })?;
         tasks = more_tasks;
         plans = more_plans;
     }
+    Ok(rows)
 }

@@ -1,5 +1,5 @@
 // A sheet as bytes.
-ghost use Rattle.std.specs.Prelude.{◌≡◌, ◌*◌, ◌≤◌, ◌++◌, length, nat_lt};
+ghost use Rattle.std.specs.Prelude.{◌≡◌, ℕ, ◌*◌, ◌≤◌, List, ◌++◌, length, nat_lt};
 ghost use Rattle.std.specs.List.{flat_map};
 ghost use Rattle.refusals.specs.Answers.{answer, refuse_if};
 ghost use Rattle.refusals.specs.declared.Refusal.TheVariants.{ListTooShort};
@@ -26,8 +26,8 @@ impl Sheet {
             return Err(Refusal::ListTooShort);
         }
         out[0..HEADER].copy_from_slice(&header(rows.len()));
-        write_tasks(rows, &mut out[HEADER..plans]);
-        write_plans(rows, &mut out[plans..length]);
+        write_entries::<TASK_ENTRY, TaskEntry>(rows, &mut out[HEADER..plans]);
+        write_entries::<PLAN_ENTRY, PlanEntry>(rows, &mut out[plans..length]);
         Ok(length)
     }
 }
@@ -41,36 +41,47 @@ fn header(count: usize) -> [u8; HEADER]
     [n1, n0, l1, l0]
 }
 
-fn task_entry(row: &SheetRow) -> [u8; TASK_ENTRY]
-    ensures { result ≡ task_entry row.now }
-{
-    let [w1, w0] = row.figures.work.to_be_bytes();
-    let [p1, p0] = row.figures.period.to_be_bytes();
-    let [d1, d0] = row.figures.deadline.to_be_bytes();
-    [row.id, w1, w0, p1, p0, d1, d0]
+// A kind of entry: N bytes of each row.
+pub(super) trait Entry<const N: usize> {
+    ghost use Rattle.sheets.specs.declared.row.SheetRow.{SheetRow};
+
+    ghost bytes: { SheetRow → List ℕ };
+
+    fn of(row: &SheetRow) -> [u8; N]
+        ensures { result ≡ bytes row.now };
 }
 
-fn plan_entry(row: &SheetRow) -> [u8; PLAN_ENTRY]
-    ensures { result ≡ plan_entry row.now }
-{
-    let [s1, s0] = row.start.to_be_bytes();
-    [s1, s0, row.level]
-}
+pub(super) struct TaskEntry;
 
-fn write_tasks(rows: &[SheetRow], out: &mut [u8])
-    requires { length out.old ≡ 7 * length rows.now }
-    ensures { out.new ≡ flat_map task_entry rows.now }
-{
-    for (i, row) in rows.iter().enumerate() {
-        out[TASK_ENTRY * i..TASK_ENTRY * (i + 1)].copy_from_slice(&task_entry(row));
+impl Entry<TASK_ENTRY> for TaskEntry {
+    ghost bytes = { task_entry };
+
+    fn of(row: &SheetRow) -> [u8; TASK_ENTRY] {
+        let [w1, w0] = row.figures.work.to_be_bytes();
+        let [p1, p0] = row.figures.period.to_be_bytes();
+        let [d1, d0] = row.figures.deadline.to_be_bytes();
+        [row.id, w1, w0, p1, p0, d1, d0]
     }
 }
 
-fn write_plans(rows: &[SheetRow], out: &mut [u8])
-    requires { length out.old ≡ 3 * length rows.now }
-    ensures { out.new ≡ flat_map plan_entry rows.now }
+pub(super) struct PlanEntry;
+
+impl Entry<PLAN_ENTRY> for PlanEntry {
+    ghost bytes = { plan_entry };
+
+    fn of(row: &SheetRow) -> [u8; PLAN_ENTRY] {
+        let [s1, s0] = row.start.to_be_bytes();
+        [s1, s0, row.level]
+    }
+}
+
+// The entries of all rows, one after the other.
+fn write_entries<const N: usize, E: Entry<N>>(rows: &[SheetRow], out: &mut [u8])
+    requires { length out.old ≡ N * length rows.now }
+    ensures { out.new ≡ flat_map E.Entry.bytes rows.now }
 {
+    // Ranges by the row's index: std says nothing of a slice that was written chunk by chunk.
     for (i, row) in rows.iter().enumerate() {
-        out[PLAN_ENTRY * i..PLAN_ENTRY * (i + 1)].copy_from_slice(&plan_entry(row));
+        out[N * i..N * (i + 1)].copy_from_slice(&E::of(row));
     }
 }

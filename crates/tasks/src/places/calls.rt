@@ -19,6 +19,7 @@ impl Places {
     pub fn add(&mut self, place: usize)
         ensures { (other : ℕ) → has_place self.new other ≡ added self.old place other }
     {
+        // Not by `get_mut`: nothing is known in a proof of what is written through it.
         if place < MOST_TASKS {
             self.has[place] = true;
         }
@@ -27,6 +28,6 @@ impl Places {
     pub fn contains(&self, place: usize) -> bool
         ensures { result ≡ has_place self.now place }
     {
-        place < MOST_TASKS && self.has[place]
+        self.has.get(place).copied().unwrap_or(false)
     }
 }

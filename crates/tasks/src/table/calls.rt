@@ -1,5 +1,5 @@
 // The calls of a table.
-ghost use Rattle.std.specs.Prelude.{◌≡◌, ◌≤◌, [], length, Some, None};
+ghost use Rattle.std.specs.Prelude.{◌≡◌, ◌≤◌, [], length, Some, None, MatchResult};
 ghost use Rattle.std.specs.List.{AllByRecursion};
 ghost use Rattle.periods.specs.Listed.{ChoicesTimesPeriod, OneListedChoice};
 ghost use Rattle.periods.specs.Lists.{ListsChoices};
@@ -7,31 +7,26 @@ ghost use Rattle.periods.specs.Multiples.{most_tasks, common_period, period_refu
 ghost use Rattle.periods.specs.Rows.{periods_of};
 ghost use Rattle.refusals.specs.Answers.{answer, AnswersWith};
 ghost use Rattle.tasks.specs.Figures.{Fair};
-ghost use Rattle.tasks.specs.Loads.{periods_in, load as load_of};
+ghost use Rattle.tasks.specs.Loads.{load as load_of};
 ghost use Rattle.tasks.specs.Rows.{row_of, Rising, figures_of, place_of, id_at, entered, amended, struck, standing_refusal, unknown_refusal, enter_refusal, amend_refusal};
 ghost use Rattle.tasks.specs.Seeking.{StandsAt, BelongsAt};
-ghost use Rattle.tasks.specs.Tables.{rows_of, figures_in, Updated, OnlyAt};
+ghost use Rattle.tasks.specs.Tables.{rows_of, figures_in, periods_held, Updated, OnlyAt};
 
-use crate::figures::{Figures, NO_FIGURES};
-use crate::rows::{HasFigures, Row, periods_of};
+use crate::figures::Figures;
+use crate::rows::{Row, periods_of};
 use crate::table::Table;
-use crate::table::order::{put_in, seek, take_out};
 use crate::task::Task;
-use periods::{Choices, MOST_TASKS, Periods};
+use periods::{Choices, Periods};
 use refusals::Refusal;
+use short_list::ShortList;
 
 impl Table {
     // A table without tasks.
     pub fn new() -> Table
         ensures { rows_of result ≡ [] }
     {
-        let none = Row {
-            id: 0,
-            figures: NO_FIGURES,
-        };
         Table {
-            rows: [none; MOST_TASKS],
-            count: 0,
+            rows: ShortList::new(),
         }
     }
 
@@ -42,7 +37,7 @@ impl Table {
         ensures rising { Rising 1 result.now }
         ensures fair { AllByRecursion (λ row. Fair row.figures) result.now }
     {
-        &self.rows[0..self.count]
+        self.rows.as_slice()
     }
 
     // How many tasks stand.
@@ -56,33 +51,36 @@ impl Table {
     pub fn id_at(&self, place: usize) -> Option<u8>
         ensures { result ≡ id_at place (rows_of self.now) }
     {
-        if place == 0 || place > self.count {
-            return None;
-        }
-        Some(self.rows[place - 1].id)
+        let row = self.rows.get(place.checked_sub(1)?)?;
+        Some(row.id)
     }
 
-    // Where the id stands, counted from 0.
+    // Where the id stands, or else where it belongs, counted from 0.
+    fn seek(&self, id: u8) -> Result<usize, usize>
+        ensures { MatchResult result (StandsAt id (rows_of self.now)) (BelongsAt id (rows_of self.now)) }
+    {
+        self.rows.binary_search_by_key(&id, |row| row.id)
+    }
+
+    // Where the id stands.
     fn find(&self, id: u8) -> Result<usize, Refusal>
         ensures { AnswersWith (unknown_refusal id (rows_of self.now)) (StandsAt id (rows_of self.now)) result }
     {
         if id == 0 {
             return Err(Refusal::ZeroId);
         }
-        match seek(self.rows(), id) {
-            Ok(at) => Ok(at),
-            Err(_) => Err(Refusal::UnknownId),
-        }
+        self.seek(id).map_err(|_| Refusal::UnknownId)
     }
 
-    // Where an id that does not stand belongs, counted from 0.
+    // Where an id that does not stand belongs.
     fn find_gap(&self, id: u8) -> Result<usize, Refusal>
         ensures { AnswersWith (standing_refusal id (rows_of self.now)) (BelongsAt id (rows_of self.now)) result }
     {
         if id == 0 {
             return Err(Refusal::ZeroId);
         }
-        match seek(self.rows(), id) {
+        // A match: here the place of an id that stands is the refusal, and no method exchanges a result's two sides.
+        match self.seek(id) {
             Ok(_) => Err(Refusal::StandingId),
             Err(at) => Ok(at),
         }
@@ -111,15 +109,13 @@ impl Table {
     {
         let at = self.find_gap(id)?;
         let task = Task::form(figures)?;
-        if self.count == MOST_TASKS {
-            return Err(Refusal::TooManyTasks);
-        }
         let row = Row {
             id,
             figures: task.figures(),
         };
-        put_in(&mut self.rows[0..self.count + 1], at, row);
-        self.count += 1;
+        self.rows
+            .insert(at, row)
+            .map_err(|_| Refusal::TooManyTasks)?;
         Ok(())
     }
 
@@ -130,10 +126,11 @@ impl Table {
     {
         let at = self.find(id)?;
         let task = Task::form(figures)?;
-        self.rows[at] = Row {
+        let row = Row {
             id,
             figures: task.figures(),
         };
+        self.rows.replace(at, row);
         Ok(())
     }
 
@@ -143,43 +140,43 @@ impl Table {
         ensures law { OnlyAt id None self.old self.new result }
     {
         let at = self.find(id)?;
-        take_out(&mut self.rows[0..self.count], at);
-        self.count -= 1;
+        self.rows.remove(at);
         Ok(())
     }
 
     // The periods of the tasks, in their places.
     pub fn periods(&self) -> Periods
-        ensures { periods_of result ≡ periods_in (figures_in self.now) }
+        ensures { periods_of result ≡ periods_held self.now }
     {
-        periods_of(self.rows())
+        periods_of(self.rows()).unwrap()
     }
 
     // The least common multiple of the periods.
     pub fn common_period(&self) -> Result<u32, Refusal>
-        ensures value { result ≡ answer (period_refusal (periods_in (figures_in self.now))) (common_period (periods_in (figures_in self.now))) }
-        ensures least { LeastCommonMultiple (periods_in (figures_in self.now)) (common_period (periods_in (figures_in self.now))) }
+        ensures value { result ≡ answer (period_refusal (periods_held self.now)) (common_period (periods_held self.now)) }
+        ensures least { LeastCommonMultiple (periods_held self.now) (common_period (periods_held self.now)) }
     {
         self.periods().common_period()
     }
 
     // The work that the tasks ask for in a common period.
     pub fn load(&self) -> Result<u32, Refusal>
-        ensures { result ≡ answer (period_refusal (periods_in (figures_in self.now))) (load_of (figures_in self.now)) }
+        ensures { result ≡ answer (period_refusal (periods_held self.now)) (load_of (figures_in self.now)) }
     {
         let common = self.common_period()?;
-        let mut load = 0;
-        for row in self.rows() {
-            load += u32::from(row.figures.work) * (common / u32::from(row.figures.period));
-        }
+        let load = self
+            .rows()
+            .iter()
+            .map(|row| row.figures.work_in(common))
+            .sum();
         Ok(load)
     }
 
     // The listed choices of starts: every choice of starts is related to exactly one of them.
     pub fn choices(&self) -> Result<Choices, Refusal>
-        ensures value { ListsChoices (periods_in (figures_in self.now)) result }
-        ensures one { OneListedChoice (periods_in (figures_in self.now)) }
-        ensures number { ChoicesTimesPeriod (periods_in (figures_in self.now)) }
+        ensures value { ListsChoices (periods_held self.now) result }
+        ensures one { OneListedChoice (periods_held self.now) }
+        ensures number { ChoicesTimesPeriod (periods_held self.now) }
     {
         self.periods().choices()
     }

@@ -7,5 +7,5 @@ use Rattle.judges.proofs.worst_start.work_in.Given as goal
 -- the work of the places passed; each adds at most two periods
 abbrev pub invariant-loop-place : goal.invariant-loop-place
 invariant-loop-place l =
-    (l.work ≡ work_up_to (figures_given l.rows) l.judged (has l.above) l.ticks l.place)
+    (l.work ≡ work_up_to (figures_given l.rows) l.judged.place (has l.judged.above.now) l.ticks l.place)
     × (l.work ≤ (l.place + 1) * 4000)

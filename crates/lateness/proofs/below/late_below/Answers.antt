@@ -7,7 +7,7 @@ use Rattle.lateness.proofs.below.late_below.Goals as goal
 pub returns-then-is_some : goal.returns-then-is_some
 returns-then-is_some c =
     record {
-      value = ruled_task c.args.case.now c.args.judged c.args.above.now c.task.result c.worst_response.result c.is_none.result c.task.ensures
+      value = ruled_task c.args.judged.case.now c.args.judged.place c.args.judged.above.now c.task.result c.worst_response.result c.is_none.result c.task.ensures
           (sym c.is_some.ensures ∙ c.if-is_some.true) c.worst_response.ensures.value c.is_none.ensures;
       decides = decides_law;
       overloaded = overloaded_law;
@@ -19,9 +19,9 @@ returns-then-is_some c =
 pub returns-else-is_some : goal.returns-else-is_some
 returns-else-is_some c =
     record {
-      value = subst (λ r. MatchBool r (LateBelow c.args.case.now c.args.judged c.args.above.now) (NeverLateBelow c.args.case.now c.args.judged c.args.above.now))
+      value = subst (λ r. MatchBool r (LateBelow c.args.judged.case.now c.args.judged.place c.args.judged.above.now) (NeverLateBelow c.args.judged.case.now c.args.judged.place c.args.judged.above.now))
           (sym c.is_some.ensures)
-          (ruled_none c.args.case.now c.args.judged c.args.above.now c.task.result c.task.ensures (sym c.is_some.ensures ∙ c.if-is_some.false));
+          (ruled_none c.args.judged.case.now c.args.judged.place c.args.judged.above.now c.task.result c.task.ensures (sym c.is_some.ensures ∙ c.if-is_some.false));
       decides = decides_law;
       overloaded = overloaded_law;
       independent = independent_law;

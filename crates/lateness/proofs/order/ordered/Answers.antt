@@ -1,10 +1,11 @@
-use Rattle.std.proofs.Common.{◌+◌, sym, ◌∙◌, subst, arith}
-use Rattle.tasks.proofs.Placed.{length-rows, start_short}
+use Rattle.std.proofs.Common.{◌≡◌, ◌+◌, ◌-◌, length, sym, ◌∙◌, subst, arith}
+use Rattle.tasks.proofs.Placed.{length-rows}
+use Rattle.tasks.specs.Cases.{tasks_of}
 use Rattle.lateness.specs.Ordered.{OrderedOn}
-use Rattle.lateness.proofs.Ranked.{ordered_more, ordered_all, put_on}
+use Rattle.lateness.proofs.Ranked.{OrderedTo, ordered_more, ordered_all}
 use Rattle.lateness.proofs.Ruled.{differ}
 use Rattle.lateness.proofs.order.ordered.Goals as goal
-use Rattle.lateness.proofs.order.ordered.Goals.{then-levels-count-via-then-levels-count, then-levels-count-via-else-levels-count+then-not-within}
+use Rattle.lateness.proofs.order.ordered.Goals.{After-put, then-levels-count-via-then-levels-count, then-levels-count-via-else-levels-count+then-not-within}
 
 pub returns-then-levels-count : goal.returns-then-levels-count
 returns-then-levels-count c order =
@@ -17,21 +18,24 @@ returns-then-levels-count c order =
 pub returns-in_err-place : goal.returns-in_err-place
 returns-in_err-place c =
     subst (OrderedOn c.args.case.now c.args.levels.now) (sym c.from_residual.ensures)
-    (λ order.
-    let each = order.each (c.loop-level.level + 1) (omega arith) (omega (arith, c.if-levels-count.false)) in
-    c.in_err-place.ensures each.0 each.1)
+    (λ order. let each = order.each c.loop-level.level (omega arith) (omega (arith, c.if-levels-count.false)) in c.in_err-place.ensures each.0 each.1)
+
+same_length : (c : After-put) → length c.args.levels.now ≡ length (tasks_of c.args.case.now)
+same_length c = c.if-levels-count.false ∙ length-rows c.args.case.now _ c.rows-count.ensures.value
+
+-- one more level has its task
+more : (c : After-put) → OrderedTo c.args.case.now c.args.levels.now c.loop-level.level c.put.new.processor
+more c =
+    ordered_more c.args.case.now c.args.levels.now c.loop-level.level c.loop-level.processor c.put.new.processor c.in_ok-place.place
+    c.in_ok-task.field-0 (omega arith) c.loop-level.invariant (same_length c) c.in_ok-place.ensures c.in_ok-task.ensures c.put.ensures
 
 pub loop-level-preserved : goal.loop-level-preserved
 loop-level-preserved c =
-    let task = c.in_ok-timed.ensures in
-    let all = c.if-levels-count.false ∙ length-rows c.args.case.now _ c.rows-count.ensures.value in
-    ordered_more c.args.case.now c.args.levels.now c.loop-level.level c.loop-level.processor c.add.new.self c.in_ok-place.place
-    c.loop-level.invariant all c.in_ok-place.ensures
-    (put_on c.loop-level.processor c.add.new.self c.add.result _ _ _ _ (task.1 _) (task.2 ∙ sym c.from.ensures) (omega (arith, c.from.ensures, start_short c.args.case.now c.in_ok-place.place task.0, task.2))
-    c.loop-level.invariant.start (omega (arith, c.loop-level.invariant.count, c.rows-count.ensures.sound.few)) c.add.ensures.value c.add.ensures.after)
+    subst (λ i. OrderedTo c.args.case.now c.args.levels.now i c.put.new.processor)
+    (let e : c.loop-level.level ≡ c.loop-level.level + 1 - 1 = omega arith in e) (more (goal.at.loop-level-preserved c).After-put)
 
-pub returns : goal.returns
-returns c =
-    let all = c.if-levels-count.false ∙ length-rows c.args.case.now _ c.rows-count.ensures.value in
-    ordered_all c.args.case.now c.args.levels.now (c.within.ensures.0 c.if-not-within.false) c.loop-level.level c.loop-level.processor
-    c.loop-level.invariant (omega (arith, c.if-levels-count.false)) all
+pub returns-in_ok-task : goal.returns-in_ok-task
+returns-in_ok-task c =
+    let put = (goal.at.returns-in_ok-task c).After-put in
+    ordered_all c.args.case.now c.args.levels.now (c.within.ensures.0 c.if-not-within.false) c.loop-level.level c.put.new.processor (more put)
+    (omega (arith, c.if-levels-count.false)) (same_length put)

@@ -1,9 +1,9 @@
-use Rattle.std.proofs.Common.{Some, sym, subst, inl, arith}
-use Rattle.tasks.proofs.Placed.{length_tasks}
+use Rattle.std.proofs.Common.{◌+◌, ◌^◌, ◌<◌, Some, sym, subst, inl, arith, rules}
+use Rattle.tasks.proofs.Placed.{few_tasks}
 use Rattle.timeline.proofs.Laws.{repeats_law}
 use Rattle.runner.specs.Running.{ToldAt}
 use Rattle.lateness.specs.Ordered.{RunsIn}
-use Rattle.lateness.proofs.Ranked.{told_none, told_idle, known_level, told_place}
+use Rattle.lateness.proofs.Ranked.{told_none, known_level, told_runs}
 use Rattle.lateness.proofs.order.runs_at.Goals as goal
 
 pub returns-in_err-processor : goal.returns-in_err-processor
@@ -13,35 +13,29 @@ returns-in_err-processor c =
       repeats = repeats_law;
     }
 
-pub returns-in_err-level : goal.returns-in_err-level
-returns-in_err-level c =
+pub returns-in_err-runs : goal.returns-in_err-runs
+returns-in_err-runs c =
     record {
-      value = subst (RunsIn c.args.case.now c.args.levels.now c.args.tick) (sym c.from_residual-in_err-level.ensures)
-          (told_none c.args.case.now c.args.levels.now c.args.tick c.in_ok-processor.processor c.in_ok-processor.ensures c.in_err-level.ensures);
+      value = subst (RunsIn c.args.case.now c.args.levels.now c.args.tick) (sym c.from_residual-in_err-runs.ensures)
+          (told_none c.args.case.now c.args.levels.now c.args.tick c.in_ok-processor.processor c.in_ok-processor.ensures c.in_err-runs.ensures);
       repeats = repeats_law;
     }
 
-pub overflow_add-level : goal.overflow_add-level
-overflow_add-level c =
+pub and_then-requires : goal.and_then-requires
+and_then-requires c =
+    λ level is.
     let case = c.args.case.now in
     let on = c.in_ok-processor.ensures in
-    let told = subst (λ runs. ToldAt c.in_ok-processor.processor c.args.tick (Some runs)) c.in-Some.is c.in_ok-level.ensures in
-    let known = known_level case c.args.levels.now c.args.tick c.in_ok-processor.processor on c.in-Some.level told in
-    omega (arith, on.0.all, length_tasks case)
+    let told = subst (λ runs. ToldAt c.in_ok-processor.processor c.args.tick (Some runs)) is c.in_ok-runs.ensures in
+    let known = known_level case c.args.levels.now c.args.tick c.in_ok-processor.processor on level told in
+    let fits : level + 1 < 2 ^ 64 = omega (arith, on.0.all, few_tasks case) in
+    search rules
 
-pub returns-in-Some : goal.returns-in-Some
-returns-in-Some c =
-    let told = subst (λ runs. ToldAt c.in_ok-processor.processor c.args.tick (Some runs)) c.in-Some.is c.in_ok-level.ensures in
+pub returns : goal.returns
+returns c =
     record {
-      value = told_place c.args.case.now c.args.levels.now c.args.tick c.in_ok-processor.processor c.in_ok-processor.ensures c.in-Some.level told
-          c.only_place.result c.only_place.ensures;
-      repeats = repeats_law;
-    }
-
-pub returns-in-None : goal.returns-in-None
-returns-in-None c =
-    let told = subst (λ runs. ToldAt c.in_ok-processor.processor c.args.tick (Some runs)) c.in-None.is c.in_ok-level.ensures in
-    record {
-      value = told_idle c.args.case.now c.args.levels.now c.args.tick c.in_ok-processor.processor c.in_ok-processor.ensures told;
+      value =
+          told_runs c.args.case.now c.args.levels.now c.args.tick c.in_ok-processor.processor c.in_ok-processor.ensures _ c.in_ok-runs.runs
+          c.and_then.result c.in_ok-runs.ensures c.and_then.ensures (λ level post. search rules);
       repeats = repeats_law;
     }

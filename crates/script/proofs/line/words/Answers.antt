@@ -1,29 +1,30 @@
-use Rattle.std.proofs.Common.{◌≡◌, vec_items, sym, subst, arith}
-use Rattle.std.specs.List.{AllByRecursion as All}
-use Rattle.script.specs.Words.{texts, words_of, Word}
-use Rattle.script.proofs.Cutting.{word_ends, word_more, word_last, all_words_of}
+use Rattle.std.proofs.Common.{rules, [], ◌≡◌, vec_items, IfOk, ap, sym, subst, ◌∙◌}
+use Rattle.std.specs.List.{AllByRecursion as All, filter, slice_split}
+use Rattle.std.proofs.lemmas.Result.{IfOk-weaker}
+use Rattle.std.proofs.lemmas.Iterator.Consumers.{YieldsList-from_filter, YieldsList-at, map_from_collect}
+use Rattle.std.proofs.lemmas.Iterator.Splits.{YieldsList-from_slice_split}
+use Rattle.script.specs.Words.{texts, before_comment, words_after, words_of, Word, blank}
+use Rattle.script.proofs.Cutting.{cut, all_words_of, some}
 use Rattle.script.proofs.line.words.Goals as goal
-use Rattle.script.proofs.line.words.Goals.{then-is_blank+in_ok-add, else-is_blank}
 
-pub loop-i-preserved : goal.loop-i-preserved
-loop-i-preserved c =
-    let text = c.before_comment-text.result.now in
-    let found = texts (vec_items c.loop-i.words) in
-    elim c.if-is_blank.branch [
-      | then-is_blank+in_ok-add w ↦
-          let step = word_ends found text c.loop-i.start c.loop-i.i c.loop-i-test.true (sym w.if-is_blank.ensures) in
-          let added = w.in_ok-add.ensures in
-          (omega (arith, w.start-is), cc)
-      | else-is_blank w ↦
-          let step = word_more found text c.loop-i.start c.loop-i.i c.loop-i-test.true c.loop-i.invariant.0 (sym w.if-is_blank.ensures) in
-          (omega (arith, w.start-is), cc)
-    ]
+-- the parts that the chain keeps, ..
+parts : (c : goal.After-collect) → IfOk c.collect.result (λ v. texts (vec_items v) ≡ filter some (slice_split blank c.before_comment.result.now))
+parts c =
+    map_from_collect _ c.collect.ensures.ran
+    (YieldsList-from_filter _ some
+    (YieldsList-at c.filter.ensures.source (YieldsList-from_slice_split _ blank _ c.split.ensures.rest c.split.ensures.done c.split.ensures.closure (λ b r q k. search rules)))
+    c.filter.ensures.closure
+    (λ word r q k. search rules))
 
-pub returns : goal.returns
-returns c =
-    let text = c.before_comment-text.result.now in
-    let found = texts (vec_items c.loop-i.words) in
-    let step = word_last found text c.loop-i.start c.loop-i.i (omega arith) in
-    let added = c.in_ok-add-2.ensures in
-    let exact : texts (vec_items c.add-2.new.words) ≡ words_of c.args.line.now = cc in
-    record { exact = exact; clean = subst (All Word) (sym exact) (all_words_of c.args.line.now) }
+-- .. are the words of the line
+exact : (c : goal.After-collect) → IfOk c.collect.result (λ v. texts (vec_items v) ≡ words_of c.args.line.now)
+exact c =
+    IfOk-weaker c.collect.result _ _
+    (λ v e. e ∙ cut c.before_comment.result.now ∙ ap (words_after []) (c.before_comment.ensures ∙ ap before_comment c.without_end.ensures))
+    (parts c)
+
+pub returns-clause-exact : goal.returns-clause-exact
+returns-clause-exact c = exact c
+
+pub returns-clause-clean : goal.returns-clause-clean
+returns-clause-clean c = IfOk-weaker c.collect.result _ _ (λ v e. subst (All Word) (sym e) (all_words_of c.args.line.now)) (exact c)

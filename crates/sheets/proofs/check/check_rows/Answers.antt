@@ -1,7 +1,12 @@
-use Rattle.std.proofs.Common.{sym, ◌∙◌}
+use Rattle.std.proofs.Common.{◌≡◌, [], length, map, sym, ap, ◌∙◌, rules}
+use Rattle.std.specs.Option.{option_map}
+use Rattle.std.specs.Result.{result_err}
 use Rattle.std.proofs.lemmas.Result.{err_from_is_err_and}
-use Rattle.sheets.specs.Checks.{wrong_by}
-use Rattle.sheets.specs.declared.check.Check.TheVariants.{Ids, Figures, Starts, Levels}
+use Rattle.periods.specs.Rows.{periods_of}
+use Rattle.tasks.specs.Loads.{periods_in}
+use Rattle.sheets.specs.Checks.{id_fault, figures_fault, start_fault, level_fault, first_wrong}
+use Rattle.sheets.specs.declared.fault.SheetFault.TheVariants.{LongCommonPeriod}
+use Rattle.sheets.proofs.Entries.{period_found, figures_timed}
 use Rattle.sheets.proofs.Soundness.{count_right, entry_parts, fair_from_passed, count_said, entry_said, period_said}
 use Rattle.sheets.proofs.check.check_rows.Goals as goal
 
@@ -17,16 +22,34 @@ returns-in_err-check_entries c =
     rw (exit.1, exit.2)
     (entry_said c.args.rows.now _ c.in_ok-check_count.ensures c.in_err-check_entries.ensures)
 
-pub check_period-requires : goal.check_period-requires
-check_period-requires c =
+pub unwrap-requires : goal.unwrap-requires
+unwrap-requires c =
     let rows = c.args.rows.now in
     let count = count_right _ (sym c.in_ok-check_count.ensures) in
     let entries =
-    entry_parts (wrong_by Ids rows) (wrong_by Figures rows) (wrong_by Starts rows) (wrong_by Levels rows)
+    entry_parts (first_wrong id_fault [] rows) (first_wrong figures_fault [] rows) (first_wrong start_fault [] rows) (first_wrong (level_fault (length rows)) [] rows)
     (sym c.in_ok-check_entries.ensures) in
-    record { some = count.0; few = count.1; fair = fair_from_passed rows entries.1 }
+    c.periods_of.ensures.fair count.1 (fair_from_passed rows entries.1)
+
+pub returns-in_err-map_err : goal.returns-in_err-map_err
+returns-in_err-map_err c =
+    let count = count_right _ (sym c.in_ok-check_count.ensures) in
+    let found : result_err c.map_err.result ≡ option_map (λ _. LongCommonPeriod) (result_err c.common_period.result) = search rules in
+    let held : periods_of c.unwrap.result ≡ periods_in (map (λ row. row.figures) c.args.rows.now) = search rules in
+    let periods = held ∙ ap periods_in (sym (figures_timed c.args.rows.now)) in
+    let left = c.from_residual-in_err-map_err in
+    let exit = err_from_is_err_and left.result left.ensures.1 in
+    rw (exit.1, exit.2)
+    (sym (ap result_err c.in_err-map_err.was) ∙ found
+    ∙ period_found (periods_of c.unwrap.result) c.args.rows.now periods _ count.0 c.common_period.ensures.value
+    ∙ period_said c.args.rows.now c.in_ok-check_count.ensures c.in_ok-check_entries.ensures)
 
 pub returns : goal.returns
 returns c =
-    c.check_period.ensures
+    let count = count_right _ (sym c.in_ok-check_count.ensures) in
+    let found : result_err c.map_err.result ≡ option_map (λ _. LongCommonPeriod) (result_err c.common_period.result) = search rules in
+    let held : periods_of c.unwrap.result ≡ periods_in (map (λ row. row.figures) c.args.rows.now) = search rules in
+    let periods = held ∙ ap periods_in (sym (figures_timed c.args.rows.now)) in
+    sym (ap result_err c.in_ok-map_err.was) ∙ found
+    ∙ period_found (periods_of c.unwrap.result) c.args.rows.now periods _ count.0 c.common_period.ensures.value
     ∙ period_said c.args.rows.now c.in_ok-check_count.ensures c.in_ok-check_entries.ensures

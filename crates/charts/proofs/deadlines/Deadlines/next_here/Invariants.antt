@@ -1,4 +1,5 @@
 use Rattle.std.proofs.Common.{◌≡◌, ◌-◌, length}
+use Rattle.sheets.specs.Sheets.{rows_of}
 use Rattle.charts.specs.Dues.{Skipped}
 use Rattle.charts.proofs.deadlines.Deadlines.next_here.Given as goal
 
@@ -8,4 +9,4 @@ invariant-loop-self l =
     Skipped l.initial.self l.self × (l.self.processor.tick ≡ l.initial.self.processor.tick) × (l.self.last ≡ l.initial.self.last)
 
 abbrev pub decreases-loop-self : goal.decreases-loop-self
-decreases-loop-self l = length l.self.rows.now - l.self.place
+decreases-loop-self l = length (rows_of l.self.sheet.now) - l.self.place

@@ -1,25 +1,33 @@
-use Rattle.std.proofs.Common.{arith}
+use Rattle.std.proofs.Common.{◌≡◌, ℕ, ◌+◌, ◌<◌, ◌≤◌, true, length, arith}
 use Rattle.tasks.proofs.Placed.{start_short}
+use Rattle.lateness.specs.declared.members.Members.{Members}
+use Rattle.lateness.specs.Members.{tasks_in, starts_in, is_member}
 use Rattle.lateness.proofs.Gathered.{members_more}
+use Rattle.lateness.proofs.Walked.{here, goes_along, reaches}
 use Rattle.lateness.proofs.members.Members.latest_start.Goals as goal
-use Rattle.lateness.proofs.members.Members.latest_start.Goals.{in-Some, in_default}
 
-pub loop-place-preserved : goal.loop-place-preserved
-loop-place-preserved c =
-    let m = c.args.self.now in
-    elim c.match-task.branch [
-      | in-Some w ↦
-          let member = w.in-Some.ensures in
-          let most = w.max-latest.ensures in
-          let from = w.from.ensures in (
-            omega (arith, w.latest-is, start_short m.case.now c.loop-place.place member.0),
-            members_more m _ c.loop-place.place (λ q l i e. omega (arith, w.latest-is, c.loop-place.invariant.1 q l i e)) (λ i e. omega (arith, w.latest-is)),
-          )
-      | in_default w ↦ (
-        omega (arith, w.latest-is),
-        members_more m _ c.loop-place.place (λ q l i e. omega (arith, w.latest-is, c.loop-place.invariant.1 q l i e)) (λ i e. absurd (w.in_default.ensures i e)),
-      )
-    ]
+-- no member before a place starts after a tick
+abbrev StartedBy : Members → ℕ → ℕ → Type 0
+StartedBy m latest i = (q : ℕ) → q < i → q < length (tasks_in m) → is_member m q ≡ true → starts_in m q ≤ latest
 
-pub returns : goal.returns
-returns c = record { short = c.loop-place.invariant.0; started = λ q i e. c.loop-place.invariant.1 q (omega (arith, c.places-place-end.ensures)) i e }
+started_rest : (m : Members) (latest i : ℕ) → (is_member m i ≡ true → ⊥) → StartedBy m latest i → StartedBy m latest (i + 1)
+started_rest m latest i none before = members_more m (λ q. starts_in m q ≤ latest) i before (λ l e. absurd (none e))
+
+pub loop-member-preserved : goal.loop-member-preserved
+loop-member-preserved c =
+    let m = c.args.self in
+    let w = c.loop-member.member-iterator in
+    let inv = c.loop-member.invariant in
+    let next = c.in-Some.ensures.steps in
+    let member = here m w c.next.new.self c.in-Some.member inv.along next in
+    let latest = c.max-latest.result in
+    let start = c.from.ensures in
+    let most = c.max-latest.ensures in
+    record {
+      along = goes_along m w c.next.new.self c.in-Some.member inv.along next;
+      short = omega (arith, start_short m.judged.case.now c.in-Some.member.place member.0, member.3);
+      started =
+          reaches m (StartedBy m latest) (started_rest m latest) (StartedBy m latest) w c.next.new.self c.in-Some.member inv.along next
+          (λ q l i e. omega (arith, inv.started q l i e))
+          (λ before. members_more m (λ q. starts_in m q ≤ latest) c.in-Some.member.place before (λ l e. omega (arith, member.3)));
+    }

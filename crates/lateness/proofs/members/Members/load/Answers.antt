@@ -1,33 +1,35 @@
-use Rattle.std.proofs.Common.{◌≡◌, length, ap, ◌∙◌, arith}
+use Rattle.std.proofs.Common.{◌≡◌, ◌+◌, ◌*◌, ◌/◌, ◌≤◌}
+use Rattle.periods.specs.Multiples.{longest_common_period}
 use Rattle.timeline.specs.Processor.{sum_below}
 use Rattle.timeline.proofs.Loads.{share}
 use Rattle.timeline.proofs.Members.{counted}
 use Rattle.lateness.specs.Members.{tasks_in, is_member}
-use Rattle.lateness.proofs.Gathered.{load_more, load_rest, few_in}
+use Rattle.lateness.proofs.Gathered.{load_more, load_rest}
+use Rattle.lateness.proofs.Walked.{here, goes_along, reaches, ends}
 use Rattle.lateness.proofs.members.Members.load.Goals as goal
-use Rattle.lateness.proofs.members.Members.load.Goals.{in-Some, in_default}
 
-pub overflow_add-load : goal.overflow_add-load
-overflow_add-load c =
-    let new = load_more c.args.self.now c.args.ticks c.loop-place.place c.requires _ c.loop-place.invariant c.in-Some.member c.in-Some.ensures _ _ _
-    c.figures-figures.ensures.value c.from.ensures c.from-in-Some.ensures in
-    omega (arith, c.loop-place-test.true, c.places-place-end.ensures, few_in c.args.self.now)
-
-pub loop-place-preserved : goal.loop-place-preserved
-loop-place-preserved c =
-    elim c.match-task.branch [
-      | in-Some w ↦
-          let new = load_more c.args.self.now c.args.ticks c.loop-place.place c.requires _ c.loop-place.invariant w.in-Some.member w.in-Some.ensures _ _ _
-          w.figures-figures.ensures.value w.from.ensures w.from-in-Some.ensures in
-          (w.load-is ∙ new.0, omega (arith, w.load-is))
-      | in_default w ↦
-          let new = load_rest c.args.self.now c.args.ticks c.loop-place.place c.requires _ c.loop-place.invariant
-          (omega (arith, c.loop-place-test.true, c.places-place-end.ensures)) w.in_default.ensures in
-          (w.load-is ∙ new.0, omega (arith, w.load-is))
-    ]
+pub loop-member-preserved : goal.loop-member-preserved
+loop-member-preserved c =
+    let m = c.args.self in
+    let w = c.loop-member.member-iterator in
+    let inv = c.loop-member.invariant in
+    let next = c.in-Some.ensures.steps in
+    let new = c.loop-member.load + c.from.result * (c.args.ticks / c.from-in-loop-member.result) in
+    record {
+      along = goes_along m w c.next.new.self c.in-Some.member inv.along next;
+      load =
+          reaches m (λ i. (c.loop-member.load ≡ sum_below (counted (is_member m) (share (tasks_in m) c.args.ticks)) i) × (c.loop-member.load ≤ i * longest_common_period))
+          (λ i none so_far. load_rest m c.args.ticks i c.requires _ so_far none)
+          (λ i. (new ≡ sum_below (counted (is_member m) (share (tasks_in m) c.args.ticks)) i) × (new ≤ i * longest_common_period))
+          w c.next.new.self c.in-Some.member inv.along next inv.load
+          (λ so_far.
+          load_more m c.args.ticks c.in-Some.member.place c.requires _ so_far c.in-Some.member.timed (here m w c.next.new.self c.in-Some.member inv.along next)
+          _ _ _ c.figures-figures.ensures.value c.from.ensures c.from-in-loop-member.ensures);
+    }
 
 pub returns : goal.returns
 returns c =
-    let m = c.args.self.now in
-    c.loop-place.invariant.0
-    ∙ ap (sum_below (counted (is_member m) (share (tasks_in m) c.args.ticks))) (let e : c.loop-place.place ≡ length (tasks_in m) = omega (arith, c.places-place-end.ensures) in e)
+    let m = c.args.self in
+    (ends m (λ i. (c.loop-member.load ≡ sum_below (counted (is_member m) (share (tasks_in m) c.args.ticks)) i) × (c.loop-member.load ≤ i * longest_common_period))
+    (λ i none so_far. load_rest m c.args.ticks i c.requires _ so_far none) c.loop-member.member-iterator c.loop-member.invariant.along
+    c.in-None.ensures.steps c.loop-member.invariant.load).0

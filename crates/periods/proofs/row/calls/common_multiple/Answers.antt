@@ -1,6 +1,6 @@
 use Rattle.std.proofs.Common.{◌+◌, arith}
 use Rattle.std.proofs.lemmas.Bool.Decides.{nat_tests}
-use Rattle.periods.proofs.Places.{MultipleSoFar, multiple_none, multiple_more, multiple_all}
+use Rattle.periods.proofs.Places.{MultipleSoFar, multiple_none, multiple_more}
 use Rattle.periods.proofs.row.calls.common_multiple.Goals as goal
 use Rattle.periods.proofs.row.calls.common_multiple.Goals.{After-lcm-common}
 
@@ -18,6 +18,3 @@ loop-period-init c = (multiple_none _ c.requires, omega arith)
 
 pub loop-period-preserved : goal.loop-period-preserved
 loop-period-preserved c = (step (goal.at.loop-period-preserved c).After-lcm-common, omega arith)
-
-pub returns : goal.returns
-returns c = grind (arith, nat_tests, multiple_all _ _ _ c.loop-period-test.false c.loop-period.invariant.0)

@@ -1,21 +1,22 @@
-use Rattle.std.proofs.Common.{◌≤◌, refl, ap, ◌∙◌, arith}
-use Rattle.planner.specs.Positions.{place_in, position_in}
-use Rattle.planner.proofs.Positions.{count_from, place_count, position_count}
+use Rattle.std.proofs.Common.{arith, rules}
+use Rattle.planner.proofs.Positions.{place_own, length_own, own_more, own_holds, own_has}
 use Rattle.planner.proofs.order.Order.new.Goals as goal
 
+pub unwrap-requires : goal.unwrap-requires
+unwrap-requires c = c.push.ensures.room.1 (omega (arith, length_own c.loop-place.place _ c.loop-place.invariant, c.loop-place-test.true, c.min-place-end.ensures))
+
+pub loop-place-preserved : goal.loop-place-preserved
+loop-place-preserved c = own_more c.loop-place.place _ _ c.loop-place.invariant (search rules)
+
 pub invariant_of-result : goal.invariant_of-result
-invariant_of-result c =
-    let few : c.min.result ≤ 8 = omega (arith, c.min.ensures) in record {
-      width = refl;
-      few = few;
-      holds = λ k below.
-          let here = place_count 8 k (omega arith) in
-          (omega (arith, here), ap (position_in (count_from 0 8)) here ∙ position_count 8 k (omega arith));
-      has = λ place below.
-          let here = position_count 8 place (omega arith) in
-          (omega (arith, here), ap (place_in (count_from 0 8)) here ∙ place_count 8 place (omega arith));
-    }
+invariant_of-result c = record {
+  holds = own_holds c.loop-place.place _ c.loop-place.invariant;
+  has = own_has c.loop-place.place _ c.loop-place.invariant;
+}
 
 pub returns : goal.returns
 returns c =
-    record { count = c.min.ensures; places = λ place below. place_count 8 place (omega (arith, below, c.min.ensures)) }
+    record {
+      count = omega (arith, length_own c.loop-place.place _ c.loop-place.invariant, c.loop-place-test.false, c.loop-place.auto.place-end, c.min-place-end.ensures);
+      places = place_own c.loop-place.place _ c.loop-place.invariant;
+    }

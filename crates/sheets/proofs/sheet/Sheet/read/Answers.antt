@@ -1,19 +1,13 @@
-use native.Mathlib.Nat.{sub-zero}
-use Rattle.std.proofs.Common.{◌<◌, arith}
+use Rattle.std.proofs.Common.{◌<◌, ◌∙◌, arith}
 use Rattle.std.proofs.ByRecursion.{All-from_get_or}
 use Rattle.std.proofs.lemmas.Result.{err_from_is_err_and}
-use Rattle.sheets.proofs.Bytes.{read_no_header, read_rows, rows_fill, rows_told}
+use Rattle.sheets.proofs.Bytes.{read_no_header, read_rows, rows_told}
 use Rattle.sheets.proofs.sheet.Sheet.read.Goals as goal
 
 pub returns-in_err-count : goal.returns-in_err-count
 returns-in_err-count c =
     let exit = err_from_is_err_and c.from_residual.result c.from_residual.ensures.1 in
     rw (exit.1, exit.2) (read_no_header c.args.bytes.now _ c.in_err-count.ensures)
-
-pub slice_bounds-form-end : goal.slice_bounds-form-end
-slice_bounds-form-end c =
-    let header = c.in_ok-count.ensures in
-    rows_fill _ c.read_rows.new.rows _ _ _ (sub-zero _) header.few c.read_rows.auto.rows
 
 pub returns : goal.returns
 returns c =
@@ -22,5 +16,5 @@ returns c =
     let parts = c.split_at.ensures in
     read_rows bytes _ c.form.result (All-from_get_or (λ byte. byte < 256) bytes 0 (λ i inside. let fits = c.type_inv.bytes i in omega arith))
     header.right
-    (rows_told _ c.read_rows.new.rows _ _ _ (sub-zero _) header.few bytes _ _ header.told parts.front parts.back c.read_rows.ensures)
+    (c.as_slice.ensures.value ∙ rows_told bytes _ _ _ header parts.front parts.back _ c.in_ok-rows.ensures)
     c.form.ensures.value

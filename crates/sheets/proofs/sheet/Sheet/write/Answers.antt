@@ -11,5 +11,5 @@ pub returns : goal.returns
 returns c =
     let given = c.rows-rows.ensures in
     write_done _ _ given.value given.sound c.args.out.now _ c.sheet_length-length.ensures
-    c.copy_from_slice.new.self c.write_tasks.new.out c.write_plans.new.out _ _ c.if-out-length.false
-    (c.copy_from_slice.ensures.after ∙ c.header.ensures) c.write_tasks.ensures c.write_plans.ensures (omega arith) (omega arith)
+    c.copy_from_slice.new.self c.write_entries.new.out c.write_entries-2.new.out _ _ c.if-out-length.false
+    (c.copy_from_slice.ensures.after ∙ c.header.ensures) c.write_entries.ensures c.write_entries-2.ensures (omega arith) (omega arith)

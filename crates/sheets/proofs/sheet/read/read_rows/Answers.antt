@@ -1,20 +1,24 @@
-use Rattle.std.proofs.Common.{arith, length-drop}
-use Rattle.std.proofs.lemmas.List.{take_rest}
-use Rattle.sheets.proofs.Bytes.{read_more, row_from, read_all}
+use Rattle.std.proofs.Common.{◌≡◌, ◌≤◌, [], ◌∷◌, ◌++◌, length, arith, rules}
+use Rattle.std.proofs.lemmas.List.{take_rest, length-drop}
+use Rattle.std.proofs.lemmas.Result.{err_from_is_err_and}
+use Rattle.short_list.specs.Items.{items_of}
+use Rattle.periods.specs.Multiples.{most_tasks}
+use Rattle.sheets.specs.Bytes.{row_in}
+use Rattle.sheets.proofs.Bytes.{read_more, rows_left}
 use Rattle.sheets.proofs.sheet.read.read_rows.Goals as goal
 
-pub loop-row-preserved : goal.loop-row-preserved
-loop-row-preserved c =
-    let tasks = c.loop-row.tasks.now in
-    let plans = c.loop-row.plans.now in
-    let row =
-    row_from tasks plans _ _ _ _ c.from_be_bytes.ensures c.from_be_bytes-in-loop-row.ensures
-    c.from_be_bytes-in-loop-row-2.ensures c.from_be_bytes-in-loop-row-3.ensures in (
-      read_more c.loop-row.rows _ c.loop-row.row-index _ tasks plans _ _ _ (omega arith) c.loop-row-test.true
-          row (take_rest tasks 7) (take_rest plans 3) c.loop-row.invariant.0,
-      simp (take_rest, length-drop) (omega arith),
-      simp (take_rest, length-drop) (omega arith),
-    )
+pub returns-in_err-push : goal.returns-in_err-push
+returns-in_err-push c =
+    let full : most_tasks ≤ length (items_of c.loop-tasks.rows) = search rules in
+    let exit = err_from_is_err_and c.from_residual.result c.from_residual.ensures.1 in
+    rw exit.1 (omega (arith, c.in-len7-up.len_at_least, rows_left _ _ _ _ _ _ _ c.loop-tasks.invariant.1))
 
-pub returns : goal.returns
-returns c = read_all c.loop-row.rows _ _ _ _ _ (omega arith) c.loop-row-test.false c.loop-row.invariant.0
+pub loop-tasks-preserved : goal.loop-tasks-preserved
+loop-tasks-preserved c =
+    let tasks = c.loop-tasks.tasks.now in
+    let plans = c.loop-tasks.plans.now in
+    let next : items_of c.push.new.self ≡ items_of c.loop-tasks.rows ++ row_in tasks plans ∷ [] = search rules in
+    rw (take_rest tasks 7, take_rest plans 3) (
+      omega (arith, length-drop 7 tasks, length-drop 3 plans),
+      read_more _ _ tasks plans _ c.in-len7-up.len_at_least next c.loop-tasks.invariant.1,
+    )

@@ -1,16 +1,7 @@
-use Rattle.std.proofs.Common.{rules}
-use Rattle.tasks.proofs.Timely.{fair_from_test_all, timely_from_test_all}
+use Rattle.std.proofs.Common.{sym, subst}
+use Rattle.tasks.specs.Timed.{Sound}
+use Rattle.tasks.proofs.Placed.{case_sound}
 use Rattle.tasks.proofs.case.Case.rows.Goals as goal
 
-pub returns : goal.returns
-returns c =
-    record {
-      value = search rules;
-      sound = record {
-        some = search rules;
-        few = search rules;
-        fair = fair_from_test_all _ (search rules);
-        timely = timely_from_test_all _ (search rules);
-        short = search rules;
-      };
-    }
+pub returns-clause-sound : goal.returns-clause-sound
+returns-clause-sound c = subst Sound (sym c.as_slice.ensures.value) (case_sound c.args.self.now)

@@ -1,31 +1,24 @@
-use Rattle.std.proofs.Common.{take, refl, ap, ◌∙◌, arith, length-set}
+use Rattle.std.proofs.Common.{refl, sym, ap, ◌∙◌}
 use Rattle.tasks.specs.Rows.{row_of, tidy, figures_of, amended}
+use Rattle.tasks.specs.Tables.{rows_of}
 use Rattle.tasks.proofs.Changes.{tidy-amended, figures_of-amended}
 use Rattle.tasks.proofs.Faults.{test_from_fair}
-use Rattle.tasks.proofs.Found.{stands_here}
-use Rattle.tasks.proofs.Stored.{amended_stored}
+use Rattle.tasks.proofs.Found.{stands_here, amended_here}
 use Rattle.tasks.proofs.table.Table.amend.Goals as goal
 
 pub invariant_of-self : goal.invariant_of-self
 invariant_of-self c =
-    let table = c.args.self.now in
-    let found = c.in_ok-at.ensures in record {
-      width = length-set table.rows _ _ ∙ table.width;
-      few = table.few;
-      tidy = ap (tidy 1) (amended_stored table.rows _ _ _ _ refl found.1 (omega arith))
-          ∙ tidy-amended (row_of _ c.figures.result) 1 (take table.count table.rows) (test_from_fair _ c.figures.ensures.fair) table.tidy;
-    }
+    let new = row_of c.args.id c.figures.result in
+    let left = c.replace.ensures.after ∙ sym (amended_here _ _ _ c.in_ok-at.ensures.1 new refl) in
+    record { tidy = ap (tidy 1) left ∙ tidy-amended new 1 _ (test_from_fair _ c.figures.ensures.fair) c.args.self.now.tidy }
 
 pub returns : goal.returns
 returns c =
-    let table = c.args.self.now in
     let found = c.in_ok-at.ensures in
     let formed = c.in_ok-task.ensures.cases in
-    let same = c.figures.ensures.value ∙ formed.1 in
-    let stored =
-    amended_stored table.rows _ _ _ _ refl found.1 (omega arith)
-    ∙ ap (λ figures. amended (row_of c.args.id figures) (take table.count table.rows)) same in
+    let left = c.replace.ensures.after ∙ sym (amended_here _ _ _ found.1 (row_of c.args.id c.figures.result) refl)
+    ∙ ap (λ figures. amended (row_of c.args.id figures) (rows_of c.args.self.now)) (c.figures.ensures.value ∙ formed.1) in
     record {
-      updated = rw (found.0, formed.0) (refl, stored);
-      law = λ _ other. ap (figures_of other) stored ∙ figures_of-amended _ _ other (stands_here _ _ _ found.1);
+      updated = rw (found.0, formed.0) (refl, left);
+      law = λ _ other. ap (figures_of other) left ∙ figures_of-amended _ _ other (stands_here _ _ _ found.1);
     }

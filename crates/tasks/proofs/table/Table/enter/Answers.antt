@@ -1,41 +1,46 @@
-use Rattle.std.proofs.Common.{◌<◌, length, take, refl, ap, ◌∙◌, arith, length-take}
-use borrow.Rule.Slice.PartMut.{same_len_mid}
-use Rattle.std.proofs.lemmas.Bool.{lt-leb}
+use Rattle.std.proofs.Common.{◌≡◌, ◌<◌, ◌≤◌, length, Err, rules, ap, ◌∙◌, sym, refl}
+use Rattle.std.specs.List.{insert}
+use Rattle.std.proofs.lemmas.Bool.{lt-leb, le-leb}
+use Rattle.std.proofs.lemmas.Result.{err_from_is_err_and}
+use Rattle.refusals.specs.declared.Refusal.TheVariants.{TooManyTasks}
 use Rattle.periods.specs.Multiples.{most_tasks}
-use Rattle.tasks.specs.Rows.{row_of, tidy, figures_of, entered}
-use Rattle.tasks.proofs.Changes.{tidy-entered, figures_of-entered}
+use Rattle.short_list.specs.Items.{items_of}
+use Rattle.tasks.specs.Rows.{row_of, figures_of, entered}
+use Rattle.tasks.specs.Tables.{rows_of}
+use Rattle.tasks.proofs.Changes.{figures_of-entered}
 use Rattle.tasks.proofs.Faults.{test_from_fair}
-use Rattle.tasks.proofs.Found.{stands_not, positive}
-use Rattle.tasks.proofs.Stored.{entered_stored}
+use Rattle.tasks.proofs.Found.{entered_here, stands_not, positive, tidy_after}
+use Rattle.tasks.proofs.Ordered.{same_table}
 use Rattle.tasks.proofs.table.Table.enter.Goals as goal
 
 pub invariant_of-self : goal.invariant_of-self
 invariant_of-self c =
-    let table = c.args.self.now in
     let gap = c.in_ok-at.ensures in
-    let put = c.put_in in
-    let new = row_of c.args.id c.figures.result in record {
-      width = same_len_mid 0 _ _ _ put.auto.rows ∙ table.width;
-      few = omega (arith, table.few, c.if-self-eq-MOST_TASKS.false);
-      tidy = ap (tidy 1) (entered_stored table.rows _ _ _ new _ _ refl gap.1 (omega arith) put.auto.rows put.ensures)
-          ∙ tidy-entered new 1 (take table.count table.rows) (positive _ _ gap.0)
-          (test_from_fair _ c.figures.ensures.fair) (stands_not _ _ _ gap.1) table.tidy;
+    let put = c.insert.ensures in
+    record {
+      tidy = tidy_after (row_of c.args.id c.figures.result) _ _ _ _ gap.1 (positive _ _ gap.0) (test_from_fair _ c.figures.ensures.fair) c.args.self.now.tidy put.ok put.full;
     }
+
+pub returns-in_err-map_err-clause-updated : goal.returns-in_err-map_err-clause-updated
+returns-in_err-map_err-clause-updated c =
+    let formed = c.in_ok-task.ensures.cases in
+    let many : most_tasks ≤ length (rows_of c.args.self.now) = search rules in
+    let same : c.insert.new.self ≡ c.args.self.now.rows = search rules in
+    let exit = err_from_is_err_and c.from_residual-in_err-map_err.result c.from_residual-in_err-map_err.ensures.1 in
+    let why : c.in_err-map_err.field-0.0 ≡ TooManyTasks = search rules in
+    rw (c.in_ok-at.ensures.0, formed.0, le-leb _ _ many) (exit.1 ∙ ap Err (exit.2 ∙ why), same_table _ _ same)
 
 pub returns : goal.returns
 returns c =
-    let table = c.args.self.now in
     let gap = c.in_ok-at.ensures in
-    let put = c.put_in in
     let formed = c.in_ok-task.ensures.cases in
-    let same = c.figures.ensures.value ∙ formed.1 in
     let new = row_of c.args.id c.figures.result in
-    let room : length (take table.count table.rows) < most_tasks =
-    omega (arith, table.few, c.if-self-eq-MOST_TASKS.false, length-take table.count table.rows) in
-    let stored =
-    entered_stored table.rows _ _ _ new _ _ refl gap.1 (omega arith) put.auto.rows put.ensures
-    ∙ ap (λ figures. entered (row_of c.args.id figures) (take table.count table.rows)) same in
+    let rows = rows_of c.args.self.now in
+    let put : items_of c.insert.new.self ≡ insert rows c.in_ok-at.at new = search rules in
+    let room : length rows < most_tasks = search rules in
+    let left = put ∙ sym (entered_here _ _ _ gap.1 new refl)
+    ∙ ap (λ figures. entered (row_of c.args.id figures) rows) (c.figures.ensures.value ∙ formed.1) in
     record {
-      updated = rw (gap.0, formed.0, lt-leb most_tasks _ room) (refl, stored);
-      law = λ _ other. ap (figures_of other) stored ∙ figures_of-entered _ _ other (stands_not _ _ _ gap.1);
+      updated = rw (gap.0, formed.0, lt-leb most_tasks _ room) (refl, left);
+      law = λ _ other. ap (figures_of other) left ∙ figures_of-entered _ _ other (stands_not _ _ _ gap.1);
     }

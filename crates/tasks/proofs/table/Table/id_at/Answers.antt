@@ -1,22 +1,22 @@
-use Rattle.std.proofs.Common.{Some, sym, ap, ◌∙◌, inl, inr, arith, length-take}
-use Rattle.std.proofs.lemmas.List.{get_or-take}
+use Rattle.std.proofs.Common.{Some, length, sym, ap, ◌∙◌, inl, inr, arith}
 use Rattle.tasks.specs.Tables.{rows_of}
 use Rattle.tasks.proofs.Found.{blank}
 use Rattle.tasks.proofs.Ordered.{id_at_none, id_at_inside}
 use Rattle.tasks.proofs.table.Table.id_at.Goals as goal
-use Rattle.tasks.proofs.table.Table.id_at.Goals.{then-place-eq0-via-then-place-eq0, then-place-eq0-via-else-place-eq0+then-place-self}
 
-pub returns-then-place-eq0 : goal.returns-then-place-eq0
-returns-then-place-eq0 c =
-    let long = length-take c.args.self.now.count c.args.self.now.rows in
-    sym (id_at_none c.args.place (rows_of c.args.self.now)
-    (elim c.then-place-eq0.branch [
-      | then-place-eq0-via-then-place-eq0 w ↦ inl w.if-place-eq0.true
-      | then-place-eq0-via-else-place-eq0+then-place-self w ↦ inr (omega (arith, w.if-place-self.true))
-    ]))
+pub returns-in_err-checked_sub : goal.returns-in_err-checked_sub
+returns-in_err-checked_sub c =
+    c.from_residual.ensures ∙ sym (id_at_none c.args.place (rows_of c.args.self.now) (inl (omega (arith, c.in_err-checked_sub.ensures))))
+
+pub returns-in_err-row : goal.returns-in_err-row
+returns-in_err-row c =
+    let past = c.in_err-row.ensures.lookup.3 in
+    c.from_residual-in_err-row.ensures
+    ∙ sym (id_at_none c.args.place (rows_of c.args.self.now) (inr (omega (arith, past, c.in_ok-checked_sub.ensures, ap length c.deref.ensures.0))))
 
 pub returns : goal.returns
 returns c =
-    let table = c.args.self.now in
-    ap (λ row. Some row.id) (sym (get_or-take table.count table.rows _ blank (omega arith)))
-    ∙ sym (id_at_inside c.args.place _ blank (omega arith) (omega (arith, length-take table.count table.rows, table.width, table.few)))
+    let found = c.in_ok-row.ensures.lookup.3 in
+    let at = c.in_ok-checked_sub.ensures.1 in
+    rw (c.deref.ensures.0, at) at (ap (λ row. Some row.id) (found.1 blank))
+    ∙ sym ((id_at_inside c.args.place (rows_of c.args.self.now) blank (omega arith) (omega (arith, found.0, at, ap length c.deref.ensures.0))))

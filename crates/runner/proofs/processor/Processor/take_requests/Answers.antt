@@ -1,0 +1,20 @@
+use Rattle.std.proofs.Common.{◌≡◌, map, refl, rules, subst, sym}
+use Rattle.std.specs.List.{All}
+use Rattle.short_list.specs.Items.{items_of}
+use Rattle.runner.specs.Levels.{Kept, requested_at}
+use Rattle.runner.proofs.Steps.{map_from_zip, all_kept}
+use Rattle.runner.proofs.processor.Processor.take_requests.Goals as goal
+use Rattle.runner.proofs.processor.Processor.take_requests.Goals.{After-update}
+
+levels : (c : After-update) → items_of c.update.new.self ≡ map (requested_at c.args.self.now.tick) (items_of c.args.self.now.levels)
+levels c = map_from_zip _ (requested_at c.args.self.now.tick) (λ x y post. search rules) _ _ c.update.ensures
+
+pub invariant_of-self : goal.invariant_of-self
+invariant_of-self c =
+    record {
+      bounded = c.args.self.now.bounded;
+      kept = subst (All (Kept c.args.self.now.tick)) (sym (levels c)) (all_kept c.args.self.now.tick _ c.args.self.now.bounded c.args.self.now.kept);
+    }
+
+pub returns : goal.returns
+returns c = record { tick = refl; levels = levels ((goal.at.returns c).After-update) }

@@ -1,0 +1,29 @@
+// Shifts and changes within a slice.
+ghost use Rattle.std.specs.Prelude.{◌≡◌, ◌<◌, List, [], ◌∷◌, ◌++◌, length, take, ◌-◌};
+ghost use Rattle.std.specs.List.{All, AllZip, insert, remove};
+
+// Moves the last item to a place, and the items from there on up.
+pub(super) fn last_to<T>(items: &mut [T], place: usize)
+    requires { place < length items.old }
+    ensures { (front : List T) (last : T) → items.old ≡ front ++ last ∷ [] → items.new ≡ insert front place last }
+{
+    items[place..].rotate_right(1);
+}
+
+// Takes the item at a place out; those after it move up, and the last slot is free.
+pub(super) fn take_out<T>(items: &mut [T], place: usize)
+    requires { place < length items.old }
+    ensures { take (length items.old - 1) items.new ≡ remove items.old place }
+{
+    items[place..].rotate_left(1);
+}
+
+// Puts what a function gives of it in the place of each item.
+pub(super) fn change<T: Copy, F: Fn(T) -> T>(items: &mut [T], by: F)
+    requires { All (F.pre by) items.old }
+    ensures { AllZip (F.post by) items.old items.new }
+{
+    for item in items.iter_mut() {
+        *item = by(*item);
+    }
+}
