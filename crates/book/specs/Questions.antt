@@ -21,8 +21,8 @@ abbrev pub RespondsAt : List SheetRow → ℕ → ℕ → Type 0
 RespondsAt rows place response = WorstResponse (tasks_of rows) (start_of rows) (level_of rows) place response
 
 -- its reckoned response, with those of smaller level above; it is absent exactly on a no
-abbrev pub ReckonedAt : Meaning → Reckoning → List SheetRow → ℕ → Option ℕ → Type 0
-ReckonedAt M N rows place response =
+abbrev pub ReckonedIn : Meaning → Reckoning → List SheetRow → ℕ → Option ℕ → Type 0
+ReckonedIn M N rows place response =
     Tells response (M (tasks_of rows) (start_of rows) place (above rows place)) (N (tasks_of rows) (start_of rows) place (above rows place))
 
 module _ {J : Type 0} (book : Book J) where
@@ -38,7 +38,7 @@ module _ {J : Type 0} (book : Book J) where
 
   -- a task's reckoned response
   abbrev pub Reckoned : Meaning → Reckoning → ℕ → Result (Option ℕ) Refusal → Type 0
-  Reckoned M N id = AnswersWith (ask_refusal book id) (ReckonedAt M N (plan_rows book) (place_in book id))
+  Reckoned M N id = AnswersWith (ask_refusal book id) (ReckonedIn M N (plan_rows book) (place_in book id))
 
 -- the sheet of a plan fills the front of a buffer, if it has room for it; the rest of the buffer stays
 pub record Filed (rows : List SheetRow) (before : List ℕ) (r : Result ℕ Refusal) (after : List ℕ) : Type 0 where

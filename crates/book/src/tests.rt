@@ -6,27 +6,24 @@ use refusals::{Refusal, TaskFault};
 use std::test::Fail;
 use tasks::Figures;
 
-fn task(work: u16, period: u16, deadline: u16) -> Figures {
-    Figures {
-        work,
-        period,
-        deadline,
-    }
-}
-
 // A book with these tasks, under the ids from 1 on.
 fn book_of<J: Judge + Drop>(judge: J, tasks: &[Figures]) -> Result<Book<J>, Refusal> {
     let mut book = Book::open(judge);
-    let mut id: u8 = 0;
-    for figures in tasks {
-        id = id.saturating_add(1);
+    for (id, figures) in (1..=u8::MAX).zip(tasks) {
         book.enter(id, *figures)?;
     }
     Ok(book)
 }
 
 fn polisher() -> Result<Book<Tick>, Refusal> {
-    book_of(Tick, &[task(3, 8, 8), task(6, 12, 12), task(1, 12, 12)])
+    book_of(
+        Tick,
+        &[
+            Figures::new(3, 8, 8),
+            Figures::new(6, 12, 12),
+            Figures::new(1, 12, 12),
+        ],
+    )
 }
 
 fn faulty(fault: TaskFault) -> Result<(), Refusal> {
@@ -35,25 +32,34 @@ fn faulty(fault: TaskFault) -> Result<(), Refusal> {
 
 #[test]
 fn enter_refuses_by_the_smallest_number(rt: HostRuntime) -> Result<(), Fail> {
-    let good = task(1, 4, 4);
+    let good = Figures::new(1, 4, 4);
     let mut book = book_of(Tick, &[good; 7])?;
-    assert_eq!(rt; book.enter(0, task(0, 0, 0)), Err(Refusal::ZeroId));
-    assert_eq!(rt; book.enter(7, task(0, 0, 0)), Err(Refusal::StandingId));
+    assert_eq!(rt; book.enter(0, Figures::new(0, 0, 0)), Err(Refusal::ZeroId));
     assert_eq!(rt;
-        book.enter(8, task(0, 2_001, 2_002)),
+        book.enter(7, Figures::new(0, 0, 0)),
+        Err(Refusal::StandingId)
+    );
+    assert_eq!(rt;
+        book.enter(8, Figures::new(0, 2_001, 2_002)),
         faulty(TaskFault::NoWork)
     );
     assert_eq!(rt;
-        book.enter(8, task(9, 2_001, 2_002)),
+        book.enter(8, Figures::new(9, 2_001, 2_002)),
         faulty(TaskFault::LongPeriod)
     );
     assert_eq!(rt;
-        book.enter(8, task(9, 4, 5)),
+        book.enter(8, Figures::new(9, 4, 5)),
         faulty(TaskFault::LateDeadline)
     );
-    assert_eq!(rt; book.enter(8, task(5, 4, 4)), faulty(TaskFault::LongWork));
+    assert_eq!(rt;
+        book.enter(8, Figures::new(5, 4, 4)),
+        faulty(TaskFault::LongWork)
+    );
     assert_eq!(rt; book.enter(8, good), Ok(()));
-    assert_eq!(rt; book.enter(9, task(5, 4, 4)), faulty(TaskFault::LongWork));
+    assert_eq!(rt;
+        book.enter(9, Figures::new(5, 4, 4)),
+        faulty(TaskFault::LongWork)
+    );
     assert_eq!(rt; book.enter(8, good), Err(Refusal::StandingId));
     assert_eq!(rt; book.enter(9, good), Err(Refusal::TooManyTasks));
     assert_eq!(rt; book.table().count(), 8);
@@ -63,13 +69,19 @@ fn enter_refuses_by_the_smallest_number(rt: HostRuntime) -> Result<(), Fail> {
 #[test]
 fn amend_and_strike_refuse_by_the_smallest_number(rt: HostRuntime) -> Result<(), Fail> {
     let mut book = polisher()?;
-    assert_eq!(rt; book.amend(0, task(0, 0, 0)), Err(Refusal::ZeroId));
-    assert_eq!(rt; book.amend(4, task(0, 0, 0)), Err(Refusal::UnknownId));
-    assert_eq!(rt; book.amend(3, task(0, 2_001, 0)), faulty(TaskFault::NoWork));
+    assert_eq!(rt; book.amend(0, Figures::new(0, 0, 0)), Err(Refusal::ZeroId));
+    assert_eq!(rt;
+        book.amend(4, Figures::new(0, 0, 0)),
+        Err(Refusal::UnknownId)
+    );
+    assert_eq!(rt;
+        book.amend(3, Figures::new(0, 2_001, 0)),
+        faulty(TaskFault::NoWork)
+    );
     assert_eq!(rt; book.strike(0), Err(Refusal::ZeroId));
     assert_eq!(rt; book.strike(4), Err(Refusal::UnknownId));
     assert_eq!(rt; book.table().load(), Ok(23));
-    assert_eq!(rt; book.amend(3, task(2, 12, 10)), Ok(()));
+    assert_eq!(rt; book.amend(3, Figures::new(2, 12, 10)), Ok(()));
     assert_eq!(rt; book.table().load(), Ok(25));
     assert_eq!(rt; book.strike(2), Ok(()));
     assert_eq!(rt; book.table().id_at(2), Some(3));
@@ -82,17 +94,24 @@ fn planned<J: Judge + Drop>(judge: J, tasks: &[Figures]) -> Result<(), Refusal> 
 
 #[test]
 fn plan_says_why_there_is_none(rt: HostRuntime) {
-    let whole = [task(3, 8, 8), task(6, 12, 12), task(1, 12, 12)];
-    let shares = [task(40, 100, 100); 4];
+    let whole = [
+        Figures::new(3, 8, 8),
+        Figures::new(6, 12, 12),
+        Figures::new(1, 12, 12),
+    ];
+    let shares = [Figures::new(40, 100, 100); 4];
     assert_eq!(rt; planned(Tick, &[]), Err(Refusal::NoTask));
     assert_eq!(rt;
-        planned(Tick, &[task(73, 73, 73), task(137, 137, 137)]),
+        planned(
+            Tick,
+            &[Figures::new(73, 73, 73), Figures::new(137, 137, 137)]
+        ),
         Err(Refusal::LongCommonPeriod)
     );
     assert_eq!(rt; planned(Tick, &shares), Err(Refusal::TooManyChoices));
     assert_eq!(rt; planned(Tick, &shares[0..3]), Err(Refusal::Overload));
     assert_eq!(rt;
-        planned(Tick, &[task(1, 2, 1), task(1, 3, 1)]),
+        planned(Tick, &[Figures::new(1, 2, 1), Figures::new(1, 3, 1)]),
         Err(Refusal::NoPlan)
     );
     assert_eq!(rt; planned(WorstStart, &whole), Err(Refusal::NoPlan));
@@ -103,14 +122,20 @@ fn plan_says_why_there_is_none(rt: HostRuntime) {
 fn a_change_removes_the_plan_unless_it_is_refused(rt: HostRuntime) -> Result<(), Fail> {
     let mut book = polisher()?;
     book.plan()?;
-    assert_eq!(rt; book.enter(3, task(1, 12, 12)), Err(Refusal::StandingId));
-    assert_eq!(rt; book.amend(4, task(1, 12, 12)), Err(Refusal::UnknownId));
+    assert_eq!(rt;
+        book.enter(3, Figures::new(1, 12, 12)),
+        Err(Refusal::StandingId)
+    );
+    assert_eq!(rt;
+        book.amend(4, Figures::new(1, 12, 12)),
+        Err(Refusal::UnknownId)
+    );
     assert_eq!(rt; book.strike(4), Err(Refusal::UnknownId));
     assert!(rt; book.is_planned());
-    book.amend(3, task(1, 12, 12))?;
+    book.amend(3, Figures::new(1, 12, 12))?;
     assert!(rt; !book.is_planned());
     book.plan()?;
-    book.enter(4, task(1, 24, 24))?;
+    book.enter(4, Figures::new(1, 24, 24))?;
     assert!(rt; !book.is_planned());
     book.plan()?;
     book.plan()?;

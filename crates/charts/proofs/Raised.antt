@@ -1,8 +1,7 @@
 -- A processor that takes the rows of a sheet level by level.
-use Rattle.std.proofs.Common.{◌≡◌, ℕ, suc, ◌+◌, ◌<◌, ◌≤◌, Bool, true, cond, ◌&&◌, eqb, ltb, leb, ◌⊎◌, List, length, is_ok, Some, None, Ok, Err, MatchBool, Result, sym, refl, ap, ◌∙◌, subst, inl, inr, arith, MatchResult}
+use Rattle.std.proofs.Common.{◌≡◌, ℕ, suc, ◌+◌, ◌<◌, ◌≤◌, true, cond, ltb, ◌⊎◌, List, length, is_ok, Some, None, Ok, Err, Result, sym, refl, ap, ◌∙◌, subst, inl, inr, arith, MatchResult}
 use Rattle.std.proofs.lemmas.Bool.{cases_lt, cases_eq, cond-true, cond-false, eq-eqb, ne_eqb, lt-ltb}
-use Rattle.std.proofs.lemmas.Bool.Decides.{nat_tests, when_true}
-use Rattle.periods.specs.Multiples.{most_tasks}
+use Rattle.std.proofs.lemmas.Bool.Decides.{nat_tests}
 use Rattle.tasks.specs.declared.figures.Figures.{Figures}
 use Rattle.refusals.specs.declared.TaskFault.{TaskFault}
 use Rattle.tasks.specs.declared.task.Task.{Task}
@@ -15,7 +14,6 @@ use Rattle.runner.specs.declared.processor.Processor.{Processor}
 use Rattle.runner.specs.Adding.{not_taken}
 use Rattle.runner.specs.Processor.{count_of}
 use Rattle.runner.specs.Running.{Stands, Added, with_level, nothing}
-use Rattle.runner.specs.Levels.{last_tick}
 use Rattle.sheets.specs.Checks.{Sound}
 use Rattle.sheets.proofs.Held.{few_rows, fair_rows, timely_rows}
 use Rattle.sheets.specs.declared.row.SheetRow.{SheetRow}

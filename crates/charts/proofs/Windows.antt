@@ -1,17 +1,21 @@
 -- A walk along a window, and the bars that it gives.
-use Rattle.std.proofs.Common.{◌≡◌, ℕ, ◌+◌, ◌<◌, ◌≤◌, min, ◌⊎◌, List, [], ◌∷◌, sym, refl, ap, ◌∙◌, subst, inl, inr, arith}
+use Rattle.std.proofs.Common.{◌≡◌, ℕ, ◌+◌, ◌<◌, ◌≤◌, min, ◌⊎◌, List, [], ◌∷◌, Option, None, sym, refl, ap, ◌∙◌, subst, inl, inr, arith}
+use mathlib.Core.HLevel.{is_prop→PathP}
 use Rattle.std.proofs.lemmas.Bool.{cases_lt}
+use Rattle.std.proofs.Props.{props}
 use Rattle.runner.specs.declared.span.Span.{Span}
 use Rattle.runner.specs.Levels.{last_tick}
-use Rattle.runner.specs.Running.{Ran}
+use Rattle.runner.specs.Running.{Stands, Ran}
 use Rattle.entries.specs.declared.Bar.{Bar}
 use Rattle.sheets.specs.Sheets.{rows_of}
 use Rattle.sheets.specs.declared.sheet.Sheet.{Sheet}
 use Rattle.sheets.proofs.Soundness.{sheet_sound}
 use Rattle.charts.specs.declared.bars.Bars.{Bars}
+use Rattle.charts.specs.declared.bars.Run.{Run}
 use Rattle.charts.specs.Charts.{shown, IsBar, IsChart, OneChart}
+use Rattle.charts.specs.Plans.{demands_of, from_zero}
 use Rattle.charts.specs.Walks.{Gave}
-use Rattle.charts.specs.Windows.{ChartAhead, id_for, Went}
+use Rattle.charts.specs.Windows.{ChartAhead, id_for, Went, NextRun}
 use Rattle.charts.proofs.Shown.{shown_by}
 
 -- the processor ran on by a span
@@ -26,6 +30,27 @@ went w w' span ran same_sheet same-to id is =
       tick = omega arith;
       same = λ tick after l. shown_by (rows_of w.sheet.now) (sheet_sound w.sheet.now) span.runs tick (ran.runs _ w.stands tick (omega arith) l) ∙ sym is;
     }
+
+-- a walk whose processor stayed is the walk that it was
+stayed : (w w' : Bars) → w'.sheet ≡ w.sheet → w'.processor ≡ w.processor → w'.to ≡ w.to → w' ≡ w
+stayed w w' sheet processor to =
+    λ i. record {
+      sheet = sheet i;
+      processor = processor i;
+      to = to i;
+      stands = is_prop→PathP (λ j. Stands (from_zero (demands_of (rows_of (sheet j).now))) (processor j)) (λ j. Prim.hlevel props) w'.stands w.stands i;
+      before = is_prop→PathP (λ j. (processor j).tick ≤ to j) (λ j. Prim.hlevel props) w'.before w.before i;
+      near = is_prop→PathP (λ j. to j ≤ last_tick) (λ j. Prim.hlevel props) w'.near w.near i;
+    }
+
+-- the processor stands at the end of the window, and stayed there
+pub ended :
+    (w w' : Bars) (r : Option Run) → r ≡ None → min w.to last_tick ≤ w.processor.tick → w'.sheet ≡ w.sheet →
+    w'.processor ≡ w.processor → w'.to ≡ w.to → NextRun w r w'
+ended w w' r none end sheet processor to =
+    let before = w.before in
+    let near = w.near in
+    subst (λ o. NextRun w o w') (sym none) (omega arith, stayed w w' sheet processor to)
 
 -- two runs of one id, one after the other
 pub went_on : (w w' w'' : Bars) (id n m : ℕ) → Went w id n w' → Went w' id m w'' → Went w id (n + m) w''

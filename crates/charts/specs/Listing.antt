@@ -5,7 +5,7 @@ use Rattle.refusals.specs.declared.Refusal.TheVariants.{ListTooShort}
 use Rattle.entries.specs.Lists.{Refilled, slots_of}
 use Rattle.entries.specs.declared.list.List.{List as EntryList}
 
--- the list holds these entries; refused where its slice has fewer slots, and then all stays
+-- the list, over the same slice, holds these entries; refused where the slice has fewer slots, and then all stays
 abbrev pub Listed : {E : Type 0} → List E → EntryList E → Result (Unit {0}) Refusal → EntryList E → Type 0
 Listed entries before (Ok _) after = (length entries ≤ length (slots_of before)) × Refilled before entries after
 Listed entries before (Err refusal) after = (refusal ≡ ListTooShort) × (length (slots_of before) < length entries) × (after ≡ before)

@@ -37,7 +37,7 @@ pub record Went (w : Bars) (id n : ℕ) (w' : Bars) : Type 0 where
 -- the next ticks of one id; none at the end of the window
 abbrev pub NextRun : Bars → Option Run → Bars → Type 0
 NextRun w (Some run) w' = (0 < run.length) × Went w run.id run.length w'
-NextRun w None w' = w.processor.tick ≡ w.to
+NextRun w None w' = (w.processor.tick ≡ w.to) × (w' ≡ w)
 
 -- the next ticks, if they show this id; else the walk stays
 abbrev pub MoreOf : Bars → ℕ → Option ℕ → Bars → Type 0

@@ -24,6 +24,7 @@ impl InspectRefusal {
     }
 }
 
+// By hand, here and below: a clause names what each makes, and a derived one has no contract.
 impl From<SheetFault> for InspectRefusal {
     ghost from_gives = { λ cause r. r ≡ FaultySheet cause };
 

@@ -25,12 +25,12 @@ Filled slots entries l = (held l ≡ entries) × (slots_of l ≡ entries ++ drop
 abbrev pub Refilled : {E : Type 0} → EntryList E → List E → EntryList E → Type 0
 Refilled l entries l' = Filled (slots_of l) entries l' × (slice_of l' ≡ slice_of l)
 
--- one entry more; refused where every slot is filled, and then all stays
+-- one entry more, in the list over the same slice; refused where every slot is filled, and then all stays
 abbrev pub Added : {E : Type 0} → EntryList E → E → Result (Unit {0}) Refusal → EntryList E → Type 0
 Added l e (Ok _) l' = (length (held l) < length (slots_of l)) × Refilled l (held l ++ e ∷ []) l'
 Added l e (Err refusal) l' = (refusal ≡ ListTooShort) × (length (held l) ≡ length (slots_of l)) × (l' ≡ l)
 
--- emptied for so many entries; refused where the slice has fewer slots, and then all stays
+-- emptied for so many entries, over the same slice; refused where the slice has fewer slots, and then all stays
 abbrev pub EmptiedFor : {E : Type 0} → EntryList E → ℕ → Result (Unit {0}) Refusal → EntryList E → Type 0
 EmptiedFor l count (Ok _) l' = (count ≤ length (slots_of l)) × Refilled l [] l'
 EmptiedFor l count (Err refusal) l' = (refusal ≡ ListTooShort) × (length (slots_of l) < count) × (l' ≡ l)

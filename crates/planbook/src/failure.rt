@@ -15,7 +15,7 @@ pub enum LineFault {
     NoFigure,
 }
 
-// Why a line has another answer than `ok`: the book refuses the call, or there is a fault in the line, or no room for it.
+// Why a line has another answer than `ok`: the library refuses the call, or there is a fault in the line, or no room for it.
 #[derive(Debug, Drop, Error)]
 pub enum Failure {
     #[error(transparent)]

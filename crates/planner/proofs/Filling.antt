@@ -12,9 +12,10 @@ use Rattle.judges.specs.Meaning.{Meaning, Lawful, Rules, MeaningAt, tasks_of, st
 use Rattle.planner.specs.declared.order.Order.{Order}
 use Rattle.planner.specs.Filling.{up_to, PassesAt, FilledFrom}
 use Rattle.planner.specs.Orders.{Levels, Passes, NonePasses, Exchanged, places_of, place_at, position_of, level_of}
-use Rattle.planner.specs.Positions.{place_in, position_in, exchanged}
+use Rattle.planner.specs.Positions.{place_in, position_in}
+use Rattle.planner.proofs.Exchanges.{places_exchanged, length_after}
 use Rattle.planner.proofs.Fairness.{case_fair}
-use Rattle.planner.proofs.Positions.{other, exchanged_at, length-exchanged, position_exchanged}
+use Rattle.planner.proofs.Positions.{other, exchanged_at, position_exchanged}
 
 rules_same : (r : Bool) (P Q : Type 0) → (P → Q) → (Q → P) → Rules r P → Rules r Q
 rules_same true P Q there back rule = there rule
@@ -50,7 +51,7 @@ greatest f (suc k) =
 module _ (i j : ℕ) (before after : Order) (moved : Exchanged i j before after) (i_in : i < length (places_of before))
     (j_in : j < length (places_of before)) where
   at_moved : places_of after ≡ swap (places_of before) i j
-  at_moved = let e = moved in grind (arith, nat_tests)
+  at_moved = let e = places_exchanged i j before after moved in grind (arith, nat_tests)
 
   place_moved : (l : ℕ) → place_at after l ≡ place_at before (other i j l)
   place_moved l = ap (λ at. place_in at l) at_moved ∙ exchanged_at (places_of before) i j i_in j_in l
@@ -108,10 +109,10 @@ module _ (M : Meaning) (lawful : Lawful M) (case : Case) where
 
   -- a trial of the place at i for the position k; before it the order is as it was at the entry
   module _
-      (i k : ℕ) (entry before after : Order) (same : places_of before ≡ places_of entry) (whole : length (places_of entry) ≡ length tasks) (inside : k < length tasks)
+      (i k : ℕ) (entry before after : Order) (same : before ≡ entry) (whole : length (places_of entry) ≡ length tasks) (inside : k < length tasks)
       (left : i ≤ k) (trial : Exchanged i k before after) where
     moved : Exchanged i k entry after
-    moved = trial ∙ ap (exchanged i k) same
+    moved = subst (λ order. Exchanged i k order after) same trial
 
     moved_above : (judged l : ℕ) → k ≤ l → M tasks starts judged (up_to entry l) → M tasks starts judged (up_to after l)
     moved_above judged l later =
@@ -127,7 +128,7 @@ module _ (M : Meaning) (lawful : Lawful M) (case : Case) where
         let Filled : Order → Type 0 = λ order. FilledFrom M case order k in
         subst Filled (sym kept)
         (record {
-          count = ap length moved ∙ length-exchanged i k (places_of entry) ∙ whole;
+          count = length_after i k entry after moved ∙ whole;
           passes =
               λ l from to.
               elim (cases_eq l k) [
@@ -148,7 +149,7 @@ module _ (M : Meaning) (lawful : Lawful M) (case : Case) where
         let here : place_at after k ≡ place =
         place_moved i k entry after moved (omega arith) (omega arith) k
         ∙ ap (place_at entry) (grind (arith, nat_tests))
-        ∙ ap (place_at entry) (is ∙ ap (λ places. position_in places place) same)
+        ∙ ap (place_at entry) (is ∙ ap (λ order. position_of order place) same)
         ∙ (entry.has place (omega arith)).1 in
         let At : ℕ → Type 0 = λ p. M tasks starts p (up_to after k) in
         refused (subst At (sym here) (moved_above place k (omega arith) ruling))

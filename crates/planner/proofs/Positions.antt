@@ -1,9 +1,8 @@
 -- Positions in a list of places, and what an exchange of two of them leaves.
-use Rattle.std.proofs.Common.{◌≡◌, ℕ, zero, suc, ◌+◌, ◌<◌, ◌≤◌, ◌==◌, ◌&&◌, cond, eqb, ltb, List, [], ◌∷◌, ◌++◌, length, Some, None, sym, refl, ap, ap₂, ◌∙◌, add-one, arith}
+use Rattle.std.proofs.Common.{◌≡◌, ℕ, zero, suc, ◌+◌, ◌<◌, ◌≤◌, ◌==◌, ◌&&◌, cond, eqb, ltb, List, [], ◌∷◌, ◌++◌, length, Some, None, sym, refl, ap, ap₂, ◌∙◌, subst, inl, inr, add-one, arith}
 use Rattle.std.specs.List.{range_with_len, swap}
-use Rattle.std.proofs.lemmas.Bool.{cond_both}
+use Rattle.std.proofs.lemmas.Bool.{cases_lt, cond_both}
 use Rattle.std.proofs.lemmas.List.Edits.{swapped_from_swap, length-swap}
-use Rattle.std.proofs.lemmas.List.{ext_get_or}
 use Rattle.std.proofs.lemmas.List.FromFn.{length-range_with_len, get_or-range_with_len}
 use Rattle.std.proofs.lemmas.List.Sums.{position_or_len_is}
 use Rattle.std.proofs.lemmas.Bool.Decides.{nat_tests}
@@ -33,15 +32,6 @@ module _ (at : List ℕ) (i j : ℕ) (i_in : i < length at) (j_in : j < length a
   exchanged_at k =
       let moved = swapped_from_swap at (swap at i j) i j 0 i_in j_in refl in
       grind (arith, nat_tests, moved.0, moved.1, moved.2 k)
-
-pub exchanged_back : (at : List ℕ) (i j : ℕ) → i < length at → j < length at → swap (swap at i j) i j ≡ at
-exchanged_back at i j i_in j_in =
-    let long = length-swap at i j in
-    ext_get_or 0 _ _ (length-swap (swap at i j) i j ∙ long)
-    (λ k inside.
-    exchanged_at (swap at i j) i j (omega arith) (omega arith) k
-    ∙ exchanged_at at i j i_in j_in (other i j k)
-    ∙ ap (place_in at) (other_back i j k))
 
 -- an exchange keeps places and positions one to one
 module _
@@ -94,6 +84,27 @@ range_with_len_more : (a n : ℕ) → range_with_len a (suc n) ≡ range_with_le
 range_with_len_more a zero = ap (λ k. k ∷ []) (omega arith)
 range_with_len_more a (suc n) =
     ap (λ all. a ∷ all) (range_with_len_more (a + 1) n ∙ ap (λ k. range_with_len (a + 1) n ++ k ∷ []) (omega arith))
+
+-- what an exchange leaves of places that are one to one
+pub kept_one_to_one :
+    (i j : ℕ) (at all : List ℕ) → all ≡ exchanged i j at → LeadsBack (length at) (place_in at) (position_in at) →
+    LeadsBack (length at) (position_in at) (place_in at) →
+    LeadsBack (length all) (place_in all) (position_in all) × LeadsBack (length all) (position_in all) (place_in all)
+kept_one_to_one i j at all is holds has = subst Kept (sym is) (elim (cases_lt i (length at)) [
+  | inl i_in ↦ elim (cases_lt j (length at)) [
+    | inl j_in ↦ subst Kept (grind (arith, nat_tests)) (
+      subst (λ n. LeadsBack n (place_in (swap at i j)) (position_in (swap at i j))) (sym (length-swap at i j))
+          (still_holds (length at) at i j (omega arith) holds i_in j_in),
+      subst (λ n. LeadsBack n (position_in (swap at i j)) (place_in (swap at i j))) (sym (length-swap at i j))
+          (still_has (length at) at i j (omega arith) holds i_in j_in has),
+    )
+    | inr past ↦ subst Kept (grind (arith, nat_tests)) (holds, has)
+  ]
+  | inr past ↦ subst Kept (grind (arith, nat_tests)) (holds, has)
+])
+  where
+    Kept : List ℕ → Type 0
+    Kept ys = LeadsBack (length ys) (place_in ys) (position_in ys) × LeadsBack (length ys) (position_in ys) (place_in ys)
 
 -- the places in their own order
 pub own_more :

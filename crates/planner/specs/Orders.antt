@@ -1,11 +1,11 @@
 -- Orders of tasks, and when one passes a judge.
 use Rattle.std.specs.Prelude.{◌≡◌, ℕ, ◌+◌, ◌<◌, ◌≤◌, List, length, Some, None, Option, nat_lt}
-use Rattle.short_list.specs.Items.{items_of}
+use Rattle.short_list.specs.Items.{items_of, Swapped}
 use Rattle.tasks.specs.declared.case.Case.{Case}
 use Rattle.tasks.specs.declared.figures.Figures.{Figures}
 use Rattle.judges.specs.Meaning.{Meaning, tasks_of, starts_of}
 use Rattle.planner.specs.declared.order.Order.{Order}
-use Rattle.planner.specs.Positions.{place_in, position_in, exchanged}
+use Rattle.planner.specs.Positions.{place_in, position_in}
 
 -- Levels of the places below n: each from 1, the highest priority, to n, and no two alike.
 pub record Levels (n : ℕ) (levels : ℕ → ℕ) : Type 0 where
@@ -41,9 +41,10 @@ position_of order place = position_in (places_of order) place
 abbrev pub level_of : Order → ℕ → ℕ
 level_of order place = position_of order place + 1
 
--- the places at two positions change
+-- The places at two positions change, in the order as a whole: a second exchange of the same positions gives the former
+-- value. Positions past the last hold no task, and then nothing changes.
 abbrev pub Exchanged : ℕ → ℕ → Order → Order → Type 0
-Exchanged first second before after = places_of after ≡ exchanged first second (places_of before)
+Exchanged first second before after = Swapped first second before.places after.places
 
 -- an order that passes with the starts of a case, or none does
 abbrev pub Ordered : Meaning → Case → Option Order → Type 0

@@ -1,9 +1,8 @@
 // The search over the starts.
-ghost use Rattle.std.specs.Prelude.{◌≡◌, ◌≤◌, length, None, nat_lt};
+ghost use Rattle.std.specs.Prelude.{◌≤◌, length};
 ghost use Rattle.periods.specs.Listed.{start_of};
-ghost use Rattle.periods.specs.Multiples.{most_tasks, common_period, period_refusal};
+ghost use Rattle.periods.specs.Multiples.{most_tasks};
 ghost use Rattle.tasks.specs.Cases.{Formed};
-ghost use Rattle.tasks.specs.Loads.{load, periods_in};
 ghost use Rattle.tasks.specs.Tables.{rows_of, figures_in};
 ghost use Rattle.planner.specs.Plans.{Answered, Searched, timed};
 
@@ -21,6 +20,7 @@ pub fn search<J: Judge>(judge: &J, table: &Table) -> Result<Option<Plan>, Refusa
     ensures { Searched (J.Judge.meaning judge.now) (figures_in table.now) result }
 {
     let choices = table.choices()?;
+    // Labelled, as the loop is left from inside: by the first choice that has an order.
     'choices: for rank in 0..choices.count() {
         let starts = choices.starts(rank).unwrap();
         let case = case_of(table, &starts)?;
@@ -37,21 +37,10 @@ pub fn plan_for<J: Judge>(judge: &J, table: &Table) -> Result<Plan, Refusal>
     ensures { Answered (J.Judge.meaning judge.now) (figures_in table.now) result }
 {
     let _ = table.choices()?;
-    if is_overloaded(table) {
+    if table.load()? > table.common_period()? {
         return Err(Refusal::Overload);
     }
     search(judge, table)?.ok_or(Refusal::NoPlan)
-}
-
-// Whether the tasks bring more work in a common period than it has ticks; false where there is no common period.
-fn is_overloaded(table: &Table) -> bool
-    ensures { period_refusal (periods_in (figures_in table.now)) ≡ None → result ≡ nat_lt (common_period (periods_in (figures_in table.now))) (load (figures_in table.now)) }
-{
-    // A match on both: the library joins no two results, and two closures in one another are no plainer.
-    match (table.common_period(), table.load()) {
-        (Ok(ticks), Ok(work)) => work > ticks,
-        _ => false,
-    }
 }
 
 // The tasks of the table with these starts.

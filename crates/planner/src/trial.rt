@@ -56,7 +56,7 @@ impl<'a> Trial<'a> {
 // A trial that ends without being kept leaves the former order, on every way out.
 impl Drop for Trial<'_> {
     fn drop(self)
-        ensures { (former : AnOrder) → Exchanged self.entry.tried self.entry.filled former self.entry.order.now → places_of self.exit.0.now ≡ places_of former }
+        ensures { (former : AnOrder) → Exchanged self.entry.tried self.entry.filled former self.entry.order.now → self.exit.0.now ≡ former }
     {
         let Trial {
             order,

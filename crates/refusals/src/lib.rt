@@ -93,7 +93,7 @@ impl Refusal {
     }
 }
 
-// Written out: the clauses above name the refusal that `?` makes, and a derived conversion has no contract.
+// Written out: the clauses of the crates above name the refusal that `?` makes, and a derived conversion has no contract.
 impl From<TaskFault> for Refusal {
     ghost from_gives = { λ wrong r. r ≡ Figures wrong };
 

@@ -3,7 +3,8 @@ ghost use Rattle.runner.specs.Running.{ToldAt};
 use crate::LAST_TICK;
 use crate::processor::Processor;
 
-// Who runs in a tick: a level, or none. No answer for a tick that is over, or that the processor does not reach.
+// Who runs in a tick: a level, or none. No answer for a tick that is over, or that the processor does not reach. Two
+// options, since these are two questions: whether there is an answer, and whether anybody runs.
 pub fn runs_at(mut processor: Processor, tick: u32) -> Option<Option<usize>>
     ensures { ToldAt processor tick result }
 {

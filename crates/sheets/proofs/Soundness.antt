@@ -147,9 +147,9 @@ timely_right row none = grind (arith, nat_tests)
 right_timely : (row : SheetRow) → row.start < row.figures.period → then_some (leb row.figures.period row.start) LateStart ≡ None
 right_timely row timely = grind (arith, nat_tests)
 
-pub fair_from_passed : (rows : List SheetRow) → first_wrong figures_fault [] rows ≡ None → All (λ row. Fair row.figures) rows
+pub fair_from_passed : (rows : List SheetRow) → first_wrong (λ _. figures_fault) [] rows ≡ None → All (λ row. Fair row.figures) rows
 fair_from_passed rows none =
-    all_from_none figures_fault (λ row. Fair row.figures) (λ earlier. fair_right) [] rows none
+    all_from_none (λ _. figures_fault) (λ row. Fair row.figures) (λ earlier. fair_right) [] rows none
 
 all_unmap : {X Y : Type 0} (P : Y → Type 0) (f : X → Y) (xs : List X) → All P (map f xs) → All (λ x. P (f x)) xs
 all_unmap P f [] all = tt
@@ -201,7 +201,7 @@ unfolding rows_fault timed
 sound_from_none rows none =
     let count = length rows in
     let parts = sheet_parts (count_fault count) (entries_fault rows) (period_fault rows) none in
-    let entries = entry_parts (first_wrong id_fault [] rows) (first_wrong figures_fault [] rows) (first_wrong start_fault [] rows) (first_wrong (level_fault count) [] rows) parts.1 in
+    let entries = entry_parts (first_wrong id_fault [] rows) (first_wrong (λ _. figures_fault) [] rows) (first_wrong (λ _. start_fault) [] rows) (first_wrong (level_fault count) [] rows) parts.1 in
     let range = count_right count parts.0 in
     let long = length-map rows timed in
     record {
@@ -212,7 +212,7 @@ sound_from_none rows none =
         fair = All-map (λ row. Fair row.figures) timed rows (fair_from_passed rows entries.1);
         timely =
             All-map (λ row. row.start < row.figures.period) timed rows
-            (all_from_none start_fault (λ row. row.start < row.figures.period) (λ earlier. timely_right) [] rows entries.2);
+            (all_from_none (λ _. start_fault) (λ row. row.start < row.figures.period) (λ earlier. timely_right) [] rows entries.2);
         short = short_right _ parts.2;
       };
       levels =
@@ -230,9 +230,9 @@ none_from_sound rows sound =
     rw (
       right_count count (omega (arith, case.some, long)) (omega (arith, case.few, long)),
       none_from_rising [] rows sound.rising,
-      none_from_all figures_fault (λ row. Fair row.figures) (λ earlier. right_fair) [] rows
+      none_from_all (λ _. figures_fault) (λ row. Fair row.figures) (λ earlier. right_fair) [] rows
           (all_unmap (λ row. Fair row.figures) timed rows case.fair),
-      none_from_all start_fault (λ row. row.start < row.figures.period) (λ earlier. right_timely) [] rows
+      none_from_all (λ _. start_fault) (λ row. row.start < row.figures.period) (λ earlier. right_timely) [] rows
           (all_unmap (λ row. row.start < row.figures.period) timed rows case.timely),
       none_from_different count [] rows (all_unmap (InRange count) (λ row. row.level) rows sound.levels) sound.different,
       right_short _ case.short,

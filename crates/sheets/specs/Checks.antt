@@ -52,16 +52,16 @@ last_id rows = slice_index (ids_in rows) (length rows - 1)
 abbrev pub is_in : ℕ → List ℕ → Bool
 is_in number numbers = list_any (λ other. number == other) numbers
 
--- what a check finds wrong with an entry, given the entries before it: an id that is not above theirs, unfair figures,
--- a late start, and, of so many entries, a wrong level
+-- what a check finds wrong with an entry: unfair figures, a late start, and, given the entries before it, an id that is
+-- not above theirs or, of so many entries, a wrong level
 abbrev pub id_fault : List SheetRow → SheetRow → Option EntryFault
 id_fault earlier row = then_some (nat_le row.id (last_id earlier)) UnsortedId
 
-abbrev pub figures_fault : List SheetRow → SheetRow → Option EntryFault
-figures_fault earlier row = option_map UnfairFigures (first_fault row.figures)
+abbrev pub figures_fault : SheetRow → Option EntryFault
+figures_fault row = option_map UnfairFigures (first_fault row.figures)
 
-abbrev pub start_fault : List SheetRow → SheetRow → Option EntryFault
-start_fault earlier row = then_some (nat_le row.figures.period row.start) LateStart
+abbrev pub start_fault : SheetRow → Option EntryFault
+start_fault row = then_some (nat_le row.figures.period row.start) LateStart
 
 abbrev pub level_fault : ℕ → List SheetRow → SheetRow → Option EntryFault
 level_fault count earlier row =
@@ -84,8 +84,8 @@ first_wrong check earlier (row ∷ rows) =
 abbrev pub entries_fault : List SheetRow → Option WrongEntry
 entries_fault rows =
     option_or (first_wrong id_fault [] rows)
-    (option_or (first_wrong figures_fault [] rows)
-    (option_or (first_wrong start_fault [] rows) (first_wrong (level_fault (length rows)) [] rows)))
+    (option_or (first_wrong (λ _. figures_fault) [] rows)
+    (option_or (first_wrong (λ _. start_fault) [] rows) (first_wrong (level_fault (length rows)) [] rows)))
 
 -- no entry, or too many
 abbrev pub count_fault : ℕ → Option SheetFault

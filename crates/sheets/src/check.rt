@@ -18,15 +18,15 @@ fn check_id(earlier: &[SheetRow], row: SheetRow) -> Result<(), EntryFault>
     Ok(())
 }
 
-fn check_figures(_earlier: &[SheetRow], row: SheetRow) -> Result<(), EntryFault>
-    ensures { result_err result ≡ figures_fault _earlier.now row }
+fn check_figures(row: SheetRow) -> Result<(), EntryFault>
+    ensures { result_err result ≡ figures_fault row }
 {
     Task::form(row.figures)?;
     Ok(())
 }
 
-fn check_start(_earlier: &[SheetRow], row: SheetRow) -> Result<(), EntryFault>
-    ensures { result_err result ≡ start_fault _earlier.now row }
+fn check_start(row: SheetRow) -> Result<(), EntryFault>
+    ensures { result_err result ≡ start_fault row }
 {
     if row.start >= row.figures.period {
         return Err(EntryFault::LateStart);
@@ -61,6 +61,7 @@ fn check_each<F: Fn(&[SheetRow], SheetRow) -> Result<(), EntryFault>>(
     Ok(())
 }
 
+// The id of the last entry. It is 0 before the first, which also refuses the id 0.
 fn last_id(rows: &[SheetRow]) -> u8
     ensures { result ≡ last_id rows.now }
 {
@@ -100,7 +101,7 @@ fn check_entries(rows: &[SheetRow]) -> Result<(), WrongEntry>
     ensures { result_err result ≡ entries_fault rows.now }
 {
     check_each(rows, check_id)?;
-    check_each(rows, check_figures)?;
-    check_each(rows, check_start)?;
+    check_each(rows, |_, row| check_figures(row))?;
+    check_each(rows, |_, row| check_start(row))?;
     check_each(rows, |earlier, row| check_level(rows.len(), earlier, row))
 }

@@ -125,6 +125,7 @@ impl SheetFault {
     }
 }
 
+// By hand, here and below: a clause names what each makes, and a derived one has no contract.
 impl From<TaskFault> for EntryFault {
     ghost from_gives = { λ cause r. r ≡ Figures cause };
 

@@ -1,2 +1,3 @@
 mod Shifts
 mod Changes
+pub mod Swaps

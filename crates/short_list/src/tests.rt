@@ -30,3 +30,16 @@ fn takes_a_slice_that_is_short_enough(rt: HostRuntime) -> Result<(), Fail> {
     assert_eq!(rt; long.err(), Some(Full));
     Ok(())
 }
+
+#[test]
+fn exchanges_two_items_that_are_there(rt: HostRuntime) -> Result<(), Full> {
+    let mut list = ShortList::<u8, 4>::new();
+    list.push(4)?;
+    list.push(9)?;
+    list.push(7)?;
+    list.swap(0, 2);
+    assert_eq!(rt; list.as_slice(), [7, 9, 4].as_slice());
+    list.swap(1, 3);
+    assert_eq!(rt; list.as_slice(), [7, 9, 4].as_slice());
+    Ok(())
+}

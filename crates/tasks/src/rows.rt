@@ -25,7 +25,7 @@ pub struct Timed {
     pub start: u16,
 }
 
-// Rows of either kind.
+// Rows of any kind: figures of a task, with what belongs to them.
 pub trait HasFigures {
     ghost has: { Self → Figures };
 

@@ -25,6 +25,7 @@ impl Task {
         ensures cases { MatchResult result (λ task. (first_fault figures ≡ None) × (task.figures ≡ figures)) (λ fault. first_fault figures ≡ Some fault) }
         ensures fair { (first_fault figures ≡ None → Fair figures) × (Fair figures → first_fault figures ≡ None) }
     {
+        // A match: a fault is what is looked for, and an option of it no result yet.
         match figures.first_fault() {
             Some(fault) => Err(fault),
             None => Ok(Task { figures }),

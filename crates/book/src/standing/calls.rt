@@ -1,4 +1,4 @@
-// The plan that stands: its tasks as a table and as a case.
+// Making a plan that stands, and its tasks as a table and as a case.
 ghost use Rattle.std.specs.Prelude.{◌≡◌, length};
 ghost use Rattle.tasks.specs.Cases.{timed_of};
 ghost use Rattle.tasks.specs.Tables.{rows_of as table_rows};

@@ -71,14 +71,14 @@ impl<'a> Members<'a> {
     pub fn latest_start(self) -> u32
         ensures { StartsBy self.entry result }
     {
-        let mut latest: u32 = 0;
-        for member in self.walk() {
-            latest = latest.max(u32::from(member.timed.start));
-        }
-        latest
+        self.walk().fold(
+            0,
+            |latest, member| latest.max(u32::from(member.timed.start)),
+        )
     }
 
-    // The work of the members in some ticks, a whole number of each period.
+    // The work of the members in some ticks, a whole number of each period. A loop here: under a `fold` it stayed open that
+    // the sum fits at each turn, since what bounds it is the place of the walk.
     pub fn load(self, ticks: u32) -> u32
         requires { ticks ≤ longest_common_period }
         ensures { result ≡ load_through (tasks_in self.entry) (levels_in self.entry) (levels_in self.entry self.entry.judged.place) ticks }

@@ -36,15 +36,13 @@ impl Iterator for Walk<'_> {
 }
 
 impl Members<'_> {
-    // The first member from a place on. The places are counted: a place is a number, and one without a task holds nothing.
+    // The first member from a place on.
     fn first_from(&self, from: usize) -> Option<Member>
         ensures { FirstFrom self.now from result }
     {
-        for place in from..self.places() {
-            if let Some(timed) = self.task(place) {
-                return Some(Member { place, timed });
-            }
-        }
-        None
+        (from..self.places()).find_map(|place| {
+            let timed = self.task(place)?;
+            Some(Member { place, timed })
+        })
     }
 }

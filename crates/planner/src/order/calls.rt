@@ -57,10 +57,7 @@ impl Order {
     pub(crate) fn exchange(&mut self, first: usize, second: usize)
         ensures { Exchanged first second self.old self.new }
     {
-        if let (Some(one), Some(other)) = (self.place_at(first), self.place_at(second)) {
-            self.places.replace(first, other);
-            self.places.replace(second, one);
-        }
+        self.places.swap(first, second);
     }
 
     // The places at the positions before this one.

@@ -18,7 +18,7 @@ impl Processor {
         self.levels.as_slice().len()
     }
 
-    // The units that a level has left from before this tick.
+    // The units that a level has left from before this tick; 0 on a level without a task, which owes nothing.
     pub fn left(&self, level: usize) -> u32
         ensures { result ≡ left_on self.now level }
     {

@@ -1,6 +1,6 @@
 ghost use Rattle.std.specs.Prelude.{◌≡◌, ◌<◌, ◌≤◌, ◌&&◌, ◌↔◌, [], ◌∷◌, ◌++◌, length, cond, nat_lt, IsOk, OnOk, OnErr, MatchResult, slice_get, slice_set, swap};
 ghost use Rattle.std.specs.List.{All, AllZip, insert, remove};
-ghost use Rattle.short_list.specs.Items.{items_of};
+ghost use Rattle.short_list.specs.Items.{items_of, with_swapped, Swapped};
 
 use crate::list::shifts::{change, last_to, take_out};
 use crate::list::{Full, ShortList};
@@ -75,6 +75,16 @@ impl<T: Copy, const N: usize> ShortList<T, N> {
         Some(other)
     }
 
+    // Exchanges two items; where one of them is not there, nothing changes.
+    pub fn swap(&mut self, first: usize, second: usize)
+        ensures items { items_of self.new ≡ with_swapped first second (items_of self.old) }
+        ensures value { Swapped first second self.old self.new }
+    {
+        if first < self.len && second < self.len {
+            self.slots.swap(first, second);
+        }
+    }
+
     // Puts what a function gives of it in the place of each item.
     pub fn update<F: Fn(T) -> T>(&mut self, by: F)
         requires { All (F.pre by) (items_of self.old) }
@@ -90,7 +100,7 @@ impl<T: Copy, const N: usize> DerefSlice for ShortList<T, N> {
     ghost deref_gives = { λ list items. (items ≡ items_of list) × (length items ≤ N) };
 
     fn deref(&self) -> &[T] {
-        self.as_slice()
+        Self::as_slice(self)
     }
 }
 

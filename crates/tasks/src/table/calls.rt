@@ -79,11 +79,7 @@ impl Table {
         if id == 0 {
             return Err(Refusal::ZeroId);
         }
-        // A match: here the place of an id that stands is the refusal, and no method exchanges a result's two sides.
-        match self.seek(id) {
-            Ok(_) => Err(Refusal::StandingId),
-            Err(at) => Ok(at),
-        }
+        self.seek(id).err().ok_or(Refusal::StandingId)
     }
 
     // The figures of the task with this id.

@@ -5,7 +5,7 @@ ghost use Rattle.charts.specs.Plans.{start_of, level_of};
 ghost use Rattle.sheets.specs.Sheets.{rows_of};
 ghost use Rattle.book.specs.Finding.{plan_of};
 ghost use Rattle.book.specs.Plans.{above as above_of};
-ghost use Rattle.book.specs.Questions.{RespondsAt, ReckonedAt};
+ghost use Rattle.book.specs.Questions.{RespondsAt, ReckonedIn};
 
 use crate::standing::StandingPlan;
 use crate::standing::task::PlannedTask;
@@ -70,7 +70,7 @@ impl PlannedTask<'_> {
 
     // The response that a judge reckons, with the tasks of smaller level above.
     pub(crate) fn reckoned<J: MeasuringJudge>(&self, judge: &J) -> Option<u32>
-        ensures { ReckonedAt (J.Judge.meaning judge.now) (J.MeasuringJudge.reckons judge.now) (plan_of self.now) self.now.place result }
+        ensures { ReckonedIn (J.Judge.meaning judge.now) (J.MeasuringJudge.reckons judge.now) (plan_of self.now) self.now.place result }
     {
         judge.response(self.plan.case().judged(self.place, &self.above()))
     }

@@ -1,5 +1,6 @@
-use Rattle.std.proofs.Common.{sym, ap, ◌∙◌, arith, below_more}
+use Rattle.std.proofs.Common.{◌≤◌, sym, ap, ◌∙◌, arith, below_more, rules}
 use Rattle.periods.specs.Listed.{number_of_choices}
+use Rattle.periods.specs.Lists.{listed_periods}
 use Rattle.tasks.specs.Tables.{rows_of, figures_in}
 use Rattle.tasks.proofs.Ordered.{fair_from_tidy}
 use Rattle.planner.proofs.Fairness.{table_fair}
@@ -44,9 +45,10 @@ pub returns : goal.returns
 returns g c =
     let judge = c.args.judge.now in
     let table = c.args.table.now in
-    let listed = c.in_ok-choices.ensures.value in (
+    let listed = c.in_ok-choices.ensures.value in
+    let all : number_of_choices (listed_periods c.in_ok-choices.choices) ≤ c.choices.rank = search rules in (
       listed.0,
       no_plan (g.J.Judge.meaning judge) (g.met.J.Judge.lawful judge) (figures_in table) (table_fair table) c.choices.rank
-          c.in_ok-choices.ensures.one (omega (arith, c.choices-test.false, c.count-rank-end.ensures.value, ap number_of_choices listed.1))
+          c.in_ok-choices.ensures.one (omega (arith, ap number_of_choices listed.1))
           c.choices.invariant,
     )

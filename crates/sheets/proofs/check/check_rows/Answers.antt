@@ -27,7 +27,7 @@ unwrap-requires c =
     let rows = c.args.rows.now in
     let count = count_right _ (sym c.in_ok-check_count.ensures) in
     let entries =
-    entry_parts (first_wrong id_fault [] rows) (first_wrong figures_fault [] rows) (first_wrong start_fault [] rows) (first_wrong (level_fault (length rows)) [] rows)
+    entry_parts (first_wrong id_fault [] rows) (first_wrong (λ _. figures_fault) [] rows) (first_wrong (λ _. start_fault) [] rows) (first_wrong (level_fault (length rows)) [] rows)
     (sym c.in_ok-check_entries.ensures) in
     c.periods_of.ensures.fair count.1 (fair_from_passed rows entries.1)
 

@@ -10,7 +10,7 @@ use Rattle.planner.specs.Plans.{Unplanned, start_at, level_at}
 use Rattle.sheets.specs.Checks.{tasks_in}
 use Rattle.sheets.specs.declared.row.SheetRow.{SheetRow}
 use Rattle.book.specs.Plans.{Planned}
-use Rattle.book.proofs.Planning.{planned_whole, rows_planned, rows_none_late, rows_sound}
+use Rattle.book.proofs.Planning.{rows_planned, rows_none_late, rows_sound}
 use Rattle.book.proofs.Rows.{tasks_in-with_plan}
 use Rattle.book.proofs.book.Book.plan.Goals as goal
 
@@ -21,19 +21,16 @@ returns-in_err-plan g c =
     let Why : List Row → Type 0 = λ rows. Unplanned M (map (λ row. row.figures) rows) c.in_err-plan.field-0.0 in
     rw (exit.1, exit.2) (subst Why c.table-table.ensures c.in_err-plan.ensures, refl)
 
-pub of-requires : goal.of-requires
-of-requires g c =
+pub of-requires-clause-sound : goal.of-requires-clause-sound
+of-requires-clause-sound g c =
     let judge = c.args.self.now.judge in
-    let M = g.J.Judge.meaning judge in
-    let lawful = g.met.J.Judge.lawful judge in
-    let table = c.table-table.result in
-    let plan = c.in_ok-plan.plan in
     let answered = c.in_ok-plan.ensures in
-    record {
-      sound = rows_sound M lawful table plan answered.2 answered.0;
-      in_time = rows_none_late M lawful table plan answered.2;
-      whole = planned_whole M lawful table plan answered.2;
-    }
+    rows_sound (g.J.Judge.meaning judge) (g.met.J.Judge.lawful judge) c.table-table.result c.in_ok-plan.plan answered.2 answered.0
+
+pub of-requires-clause-in_time : goal.of-requires-clause-in_time
+of-requires-clause-in_time g c =
+    let judge = c.args.self.now.judge in
+    rows_none_late (g.J.Judge.meaning judge) (g.met.J.Judge.lawful judge) c.table-table.result c.in_ok-plan.plan c.in_ok-plan.ensures.2
 
 pub returns : goal.returns
 returns g c =

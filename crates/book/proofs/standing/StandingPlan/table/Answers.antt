@@ -1,6 +1,6 @@
 use Rattle.std.proofs.Common.{List, length, get_or, sym, ap, ◌∙◌, subst, arith}
 use lib.ListN.{length-map}
-use Rattle.std.proofs.lemmas.List.{take_all, get_or-map}
+use Rattle.std.proofs.lemmas.List.{get_or-map}
 use Rattle.tasks.specs.Rows.{row_of}
 use Rattle.tasks.specs.declared.rows.Row.{Row}
 use Rattle.sheets.specs.Checks.{Sound, tasks_in}
@@ -26,9 +26,3 @@ loop-row-preserved c =
     c.loop-row.table c.enter.new.self c.enter.result
     (ap (λ all. Task (get_or all k blank)) same ∙ sym (get_or-map Task rows k blank (Task blank) (omega arith))) c.loop-row.invariant
     c.enter.ensures.updated
-
-pub returns : goal.returns
-returns c =
-    let rows = rows_of c.args.self.now.sheet in
-    let many = length-map rows (λ row. row_of row.id row.figures) in
-    c.loop-row.invariant ∙ take_all _ (tasks_in rows) (omega (arith, ap length c.rows-row-items.ensures.value))

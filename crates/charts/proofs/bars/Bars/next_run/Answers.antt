@@ -1,7 +1,11 @@
 use Rattle.std.proofs.Common.{refl, ap, ◌∙◌}
 use Rattle.charts.specs.Windows.{id_for}
-use Rattle.charts.proofs.Windows.{went}
+use Rattle.charts.proofs.Windows.{went, ended}
 use Rattle.charts.proofs.bars.Bars.next_run.Goals as goal
+
+pub returns-in_err-span : goal.returns-in_err-span
+returns-in_err-span c =
+    let end = c.in_err-span.ensures in ended c.args.self.now _ _ c.from_residual.ensures end.0 refl end.1 refl
 
 pub returns : goal.returns
 returns c =

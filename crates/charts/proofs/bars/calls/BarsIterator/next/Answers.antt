@@ -6,7 +6,7 @@ use Rattle.charts.proofs.bars.calls.BarsIterator.next.Goals as goal
 
 pub returns-in_err-run-clause-steps : goal.returns-in_err-run-clause-steps
 returns-in_err-run-clause-steps c =
-    let end = c.in_err-run.ensures in
+    let end = c.in_err-run.ensures.0 in
     subst (λ r. Gives ChartAhead c.args.self.now r c.next_run.new.self) (sym c.from_residual.ensures)
     (end, none_ahead c.args.self.now end)
 
