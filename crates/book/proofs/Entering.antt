@@ -1,5 +1,5 @@
 -- Rows in rising order enter a table one after the other.
-use Rattle.std.proofs.Common.{◌≡◌, ℕ, zero, suc, ◌+◌, ◌<◌, ◌≤◌, List, [], ◌∷◌, length, get_or, take, None, Option, Result, sym, refl, ◌∙◌, subst, arith}
+use Rattle.std.proofs.Common.{◌≡◌, ℕ, zero, suc, ◌+◌, ◌<◌, ◌≤◌, List, [], ◌∷◌, length, get_or, take, None, Ok, Option, Result, sym, refl, ◌∙◌, subst, arith}
 use Rattle.std.specs.List.{AllByRecursion as All}
 use Rattle.std.proofs.ByRecursion.{All-get_or}
 use Rattle.std.proofs.lemmas.List.{take_all, take_more, drop_all, length-take-le}
@@ -47,7 +47,7 @@ module _
   next_accepted =
       let long = length-take-le k rows (omega arith) in
       let positive = least_at 1 rows k d rising inside in
-      let fresh = free (get_or rows k d).id (take k rows) k belongs (λ zero'. omega arith) in
+      let fresh = free (get_or rows k d).id (take k rows) k belongs (grind (arith, nat_tests)) in
       let right = none_from_fair (get_or rows k d).figures (All-get_or (λ row. Fair row.figures) rows k d inside fair) in
       grind (arith, nat_tests)
 
@@ -58,12 +58,15 @@ module _
       entered_here (get_or rows k d).id (take k rows) k belongs (get_or rows k d) refl
       ∙ rw (take_all k (take k rows) short, drop_all k (take k rows) short) (sym (take_more rows k d inside))
 
+  -- the next row is entered, and the rows up to it stand
   pub enters_next :
       (new : Row) (before after : Table) (r : Result (Unit {0}) Refusal) → new ≡ get_or rows k d → rows_of before ≡ take k rows →
-      Updated (enter_refusal new (rows_of before)) (entered new (rows_of before)) before after r → rows_of after ≡ take (k + 1) rows
+      Updated (enter_refusal new (rows_of before)) (entered new (rows_of before)) before after r →
+      (r ≡ Ok tt) × (rows_of after ≡ take (k + 1) rows)
   enters_next new before after r is front updated =
       let Done : Row → List Row → Type 0 = λ row rest. Updated (enter_refusal row rest) (entered row rest) before after r in
       let Accepted : Option Refusal → Type 0 = λ refusal. Updated refusal (entered (get_or rows k d) (take k rows)) before after r in
       let there : Done (get_or rows k d) (take k rows) =
       subst (λ (row : Row). Done row (take k rows)) is (subst (λ (rest : List Row). Done new rest) front updated) in
-      (subst Accepted next_accepted there).1 ∙ next_entered
+      let done = subst Accepted next_accepted there in
+      (done.0, done.1 ∙ next_entered)

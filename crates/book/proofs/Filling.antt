@@ -1,17 +1,10 @@
--- A list that is filled place by place, and what is formed of it.
-use Rattle.std.proofs.Common.{◌≡◌, ℕ, ◌+◌, ◌<◌, true, List, [], ◌∷◌, ◌++◌, length, get_or, take, is_ok, None, Ok, Err, Result, sym, refl, ap, ◌∙◌, subst, ap₂, arith}
-use Rattle.std.proofs.lemmas.List.{take_more}
+-- What is formed of rows without a fault.
+use Rattle.std.proofs.Common.{◌≡◌, ℕ, true, List, is_ok, None, Ok, Err, Result, refl, ap, ◌∙◌, subst, arith}
 use Rattle.sheets.specs.Checks.{rows_fault}
 use Rattle.sheets.specs.Sheets.{rows_of, Gives}
 use Rattle.sheets.specs.declared.fault.SheetFault.{SheetFault}
 use Rattle.sheets.specs.declared.row.SheetRow.{SheetRow}
 use Rattle.sheets.specs.declared.sheet.Sheet.{Sheet}
-
--- one more item behind the first ones of a list
-pub front_more :
-    {X : Type 0} (goal front : List X) (k : ℕ) (x : X) → front ≡ take k goal → k < length goal → get_or goal k x ≡ x →
-    front ++ x ∷ [] ≡ take (k + 1) goal
-front_more goal front k x is inside here = ap₂ (λ xs y. xs ++ y ∷ []) is (sym here) ∙ sym (take_more goal k x inside)
 
 -- a sheet of rows without a fault
 module _ (given goal : List SheetRow) (r : Result Sheet SheetFault) (formed : Gives (rows_fault given) given r) (same : given ≡ goal) where

@@ -1,5 +1,5 @@
 -- A task of a book that has a plan.
-use Rattle.std.proofs.Common.{◌≡◌, ℕ, ◌-◌, ◌<◌, ◌≤◌, true, List, [], ◌∷◌, length, Some, None, Ok, Option, sym, refl, ap, ◌∙◌, subst, arith}
+use Rattle.std.proofs.Common.{◌≡◌, ℕ, ◌-◌, ◌<◌, ◌≤◌, true, List, [], ◌∷◌, length, Some, None, Ok, Option, sym, refl, ap, ◌∙◌, arith}
 use lib.ListN.{length-map}
 use Rattle.std.proofs.lemmas.Bool.Decides.{nat_tests}
 use Rattle.refusals.specs.Answers.{answer}
@@ -7,13 +7,10 @@ use Rattle.refusals.specs.declared.Refusal.{Refusal}
 use Rattle.tasks.specs.Rows.{row_of, place_of, stands, unknown_refusal}
 use Rattle.tasks.specs.declared.rows.Row.{Row}
 use Rattle.sheets.specs.Sheets.{rows_of}
-use Rattle.sheets.specs.declared.row.SheetRow.{SheetRow}
-use Rattle.book.specs.Books.{rows_in, plan_rows, place_in, rows_held, plan_rows_held}
-use Rattle.book.specs.Finding.{FoundAt, plan_of}
+use Rattle.book.specs.Books.{rows_in, place_in, rows_held}
 use Rattle.book.specs.declared.book.Book.{Book}
 use Rattle.book.specs.declared.book.Held.TheVariants.{Plan}
 use Rattle.book.specs.declared.standing.StandingPlan.{StandingPlan}
-use Rattle.book.specs.declared.standing.task.PlannedTask.{PlannedTask}
 
 place_positive : (id : ℕ) (rows : List Row) → 1 ≤ place_of id rows
 place_positive id [] = omega arith
@@ -30,9 +27,6 @@ told (Some refusal) value x is = let never : ◌≡◌ {A = ℕ} 0 1 = cc in abs
 
 -- the place of a task of a table, from 1
 module _ (id place : ℕ) (rows : List Row) (answered : Ok place ≡ answer (unknown_refusal id rows) (place_of id rows)) where
-  pub place_known : 1 ≤ place
-  place_known = omega (arith, (told (unknown_refusal id rows) (place_of id rows) place answered).1, place_positive id rows)
-
   -- where the rows are those of a book, the question is not refused for its id, and the place is that of the id there
   module _ {J : Type 0} (book : Book J) (same : rows ≡ rows_in book) where
     pub known_in : unknown_refusal id (rows_in book) ≡ None
@@ -54,12 +48,3 @@ module _ (id place : ℕ) (rows : List Row) (answered : Ok place ≡ answer (unk
           ap length (ap rows_held standing),
           length-map (rows_of plan.sheet) (λ row. row_of row.id row.figures),
         )
-
--- what holds of a task of the plan that stands holds of the book's rows at the place of the id
-pub of_found :
-    {J : Type 0} (book : Book J) (id : ℕ) (task : PlannedTask) → FoundAt book id task →
-    (P : List SheetRow → ℕ → Type 0) → P (plan_of task) task.place → P (plan_rows book) (place_in book id)
-of_found book id task at P holds =
-    let Rows : List SheetRow → Type 0 = λ rows. P rows task.place in
-    let Place : ℕ → Type 0 = λ n. P (plan_rows book) n in
-    subst Place at.place (subst Rows (sym (ap plan_rows_held at.stands)) holds)

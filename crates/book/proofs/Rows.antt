@@ -1,12 +1,12 @@
 -- Rows of a sheet, and of a table with starts and levels.
-use Rattle.std.proofs.Common.{◌≡◌, ℕ, zero, suc, ◌+◌, ◌<◌, ◌≤◌, Bool, ◌&&◌, ◌||◌, eqb, ltb, List, [], ◌∷◌, map, length, get_or, take, sym, refl, ap, ◌∙◌, ap₂, inl, inr, arith}
+use Rattle.std.proofs.Common.{◌≡◌, ℕ, zero, suc, ◌<◌, ◌≤◌, List, [], ◌∷◌, map, length, get_or, take, refl, ap, arith}
 use Rattle.std.specs.List.{AllByRecursion as All}
 use Rattle.std.proofs.lemmas.List.{get_or-map}
-use Rattle.std.proofs.lemmas.Bool.{cases_eq}
-use Rattle.std.proofs.lemmas.Bool.Decides.{nat_tests}
-use Rattle.periods.specs.Multiples.{most_tasks}
 use Rattle.tasks.specs.Figures.{Fair}
 use Rattle.tasks.specs.declared.rows.Row.{Row}
+use Rattle.std.specs.Prelude.{slice_index}
+use Rattle.short_list.proofs.Collected.{paired}
+use Rattle.planner.specs.declared.plan.Assignment.{Assignment}
 use Rattle.planner.specs.Plans.{timed}
 use Rattle.charts.specs.Plans.{tasks_of, start_of, level_of}
 use Rattle.sheets.specs.Checks.{tasks_in, timed_in}
@@ -63,27 +63,6 @@ starts_of_lem (row ∷ rows) = ap (λ all. row.start ∷ all) (starts_of_lem row
 abbrev pub blank : SheetRow
 blank = record { id = 0; figures = record { work = 0; period = 0; deadline = 0 }; start = 0; level = 0 }
 
-with_plan_at :
-    (rows : List Row) (starts levels : ℕ → ℕ) (k : ℕ) (e : Row) (d : SheetRow) → k < length rows →
-    get_or (with_plan rows starts levels) k d
-    ≡ record { id = (get_or rows k e).id; figures = (get_or rows k e).figures; start = starts k; level = levels k }
-with_plan_at [] starts levels k e d inside = absurd (omega arith)
-with_plan_at (row ∷ rows) starts levels zero e d inside = refl
-with_plan_at (row ∷ rows) starts levels (suc k) e d inside =
-    with_plan_at rows (λ place. starts (suc place)) (λ place. levels (suc place)) k e d (omega arith)
-
--- a row with its start and level, as it is put on a sheet
-abbrev pub sheet_row : List Row → ℕ → Row → ℕ → ℕ → SheetRow
-sheet_row rows k e start level = record { id = (get_or rows k e).id; figures = (get_or rows k e).figures; start = start; level = level }
-
-pub with_plan_put :
-    (rows given : List Row) (starts levels : ℕ → ℕ) (k : ℕ) (e : Row) (start level : ℕ) → given ≡ rows → k < length rows →
-    start ≡ starts k → level ≡ levels k →
-    get_or (with_plan rows starts levels) k (sheet_row given k e start level) ≡ sheet_row given k e start level
-with_plan_put rows given starts levels k e start level same inside is-start is_level =
-    with_plan_at rows starts levels k e _ inside
-    ∙ sym (ap (λ all. sheet_row all k e start level) same ∙ ap₂ (sheet_row rows k e) is-start is_level)
-
 -- fair tasks, with their starts or without
 pub fair_tasks : (rows : List SheetRow) → All (λ row. Fair row.figures) (timed_in rows) → All (λ row. Fair row.figures) (tasks_in rows)
 fair_tasks [] fair = tt
@@ -95,20 +74,13 @@ level_at_lem rows place inside = get_or-map (λ row. row.level) rows place blank
 pub start_at : (rows : List SheetRow) (place : ℕ) → place < length rows → start_of rows place ≡ (get_or rows place blank).start
 start_at rows place inside = get_or-map (λ row. row.start) rows place blank 0 inside
 
--- of the places up to one, those of smaller level than that of a place: one place more
-module _ (levels : ℕ → ℕ) (place other q : ℕ) (before : Bool) (passed : before ≡ (ltb q other && ltb (levels q) (levels place))) where
-  pub above_added :
-      (after : Bool) → other < most_tasks → levels other < levels place → after ≡ ((eqb q other && ltb other most_tasks) || before) →
-      after ≡ (ltb q (other + 1) && ltb (levels q) (levels place))
-  above_added after room smaller is =
-      elim (cases_eq q other) [
-        | inl same ↦ let here = ap levels same in grind (arith, nat_tests)
-        | inr apart ↦ grind (arith, nat_tests)
-      ]
-
-  pub above_passed : levels place ≤ levels other → before ≡ (ltb q (other + 1) && ltb (levels q) (levels place))
-  above_passed larger =
-      elim (cases_eq q other) [
-        | inl same ↦ let here = ap levels same in grind (arith, nat_tests)
-        | inr apart ↦ grind (arith, nat_tests)
-      ]
+-- rows side by side with what a plan gives them
+pub planned_pairs :
+    (rows : List Row) (given : List Assignment) → length rows ≤ length given →
+    paired (λ row task. record { id = row.id; figures = row.figures; start = task.start; level = task.level }) rows given
+    ≡ with_plan rows (slice_index (map (λ task. task.start) given)) (slice_index (map (λ task. task.level) given))
+planned_pairs [] given long = refl
+planned_pairs (row ∷ rows) [] long = absurd (omega arith)
+planned_pairs (row ∷ rows) (task ∷ given) long =
+    ap (λ rest. record { id = row.id; figures = row.figures; start = task.start; level = task.level } ∷ rest)
+    (planned_pairs rows given (omega arith))

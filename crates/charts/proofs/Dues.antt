@@ -3,7 +3,6 @@ use Rattle.std.proofs.Common.{◌≡◌, ℕ, ◌+◌, ◌<◌, ◌≤◌, true,
 use Rattle.std.proofs.lemmas.Bool.{cases_lt, cases_eq}
 use Rattle.timeline.specs.Timeline.{deadline_of}
 use Rattle.runner.specs.Levels.{last_tick}
-use Rattle.runner.specs.Running.{Stands}
 use Rattle.entries.specs.declared.LateRequest.{LateRequest}
 use Rattle.sheets.specs.declared.row.SheetRow.{SheetRow}
 use Rattle.sheets.specs.Sheets.{rows_of}
@@ -13,7 +12,7 @@ use Rattle.sheets.proofs.Soundness.{sheet_sound}
 use Rattle.charts.specs.declared.deadlines.Deadlines.{Deadlines}
 use Rattle.charts.specs.Dues.{LateNow, LateAt, LateAhead, Still, Skipped, Found, NextHere}
 use Rattle.charts.specs.LateRequests.{request_at, IsLate, Before, InOrder}
-use Rattle.charts.specs.Plans.{tasks_of, start_of, id_of, demands_of, from_zero, horizon}
+use Rattle.charts.specs.Plans.{tasks_of, start_of, id_of, horizon}
 use Rattle.charts.specs.Walks.{Gave, Gives}
 use Rattle.charts.proofs.Ordered.{same_order, none_in_order, none_only, one_more_first, only_first}
 use Rattle.charts.proofs.Owed.{ids_rise}
@@ -43,17 +42,17 @@ same_request rows place j k same =
     λ i. record { id = id_of rows place; request = (let r : (request_at rows place j).request ≡ (request_at rows place k).request = omega arith in r) i; deadline = same i }
 
 -- a place further
-module _ (w : Deadlines) (here : w.place < length (rows_of w.sheet.now)) (stands : Stands (from_zero (demands_of (rows_of w.sheet.now))) w.processor)
-    (inside : w.place + 1 ≤ length (rows_of w.sheet.now)) (told : w.last ≡ horizon (rows_of w.sheet.now)) (near : w.last < last_tick) where
+module _ (w : Deadlines) (here : w.place < length (rows_of w.running.sheet.now))
+    (inside : w.place + 1 ≤ length (rows_of w.running.sheet.now)) (told : w.last ≡ horizon (rows_of w.running.sheet.now)) (near : w.last < last_tick) where
   abbrev rows : List SheetRow
-  rows = rows_of w.sheet.now
+  rows = rows_of w.running.sheet.now
 
   abbrev tick : ℕ
-  tick = w.processor.tick
+  tick = w.running.processor.tick
 
   abbrev pub passed : Deadlines
   passed =
-      record { sheet = w.sheet; processor = w.processor; place = w.place + 1; last = w.last; stands = stands; inside = inside; told = told; near = near }
+      record { running = w.running; place = w.place + 1; last = w.last; inside = inside; told = told; near = near }
 
   back : (e : LateRequest) → Still passed e → Still w e
   back e still =
@@ -76,7 +75,7 @@ module _ (w : Deadlines) (here : w.place < length (rows_of w.sheet.now)) (stands
           (still.late.k, (sym (ap (λ r. r.deadline) still.late.is) ∙ at, still.late.late), still.late.is))
       go (inr (at, le)) (inr ne) = inr (record { late = still.late; later = inr (at, omega arith) })
 
-  pub skip_place : LateAt rows w.place tick None → Skipped w passed
+  skip_place : LateAt rows w.place tick None → Skipped w passed
   skip_place none =
       record {
         falls = omega arith;
@@ -84,9 +83,9 @@ module _ (w : Deadlines) (here : w.place < length (rows_of w.sheet.now)) (stands
         back = back;
       }
 
-  pub found_place : (e : LateRequest) → tick ≤ w.last → LateAt rows w.place tick (Some e) → Found w e passed
+  found_place : (e : LateRequest) → tick ≤ w.last → LateAt rows w.place tick (Some e) → Found w e passed
   found_place e due_now (k, late, is) =
-      let few = few_rows rows (sheet_sound w.sheet.now) in
+      let few = few_rows rows (sheet_sound w.running.sheet.now) in
       let due : e.deadline ≡ tick = ap (λ r. r.deadline) is ∙ late.0 in
       record {
         falls = omega arith;
@@ -108,7 +107,7 @@ module _ (w : Deadlines) (here : w.place < length (rows_of w.sheet.now)) (stands
       before other s (inr (at, le)) due =
           let mine = ap (λ r. r.id) is in
           let its = ap (λ r. r.id) s.late.is in
-          inr (due ∙ sym at, omega (arith, ids_rise 1 rows (sheet_sound w.sheet.now).rising w.place s.late.place (omega arith) s.late.inside))
+          inr (due ∙ sym at, omega (arith, ids_rise 1 rows (sheet_sound w.running.sheet.now).rising w.place s.late.place (omega arith) s.late.inside))
 
   -- the same by what was found
   pub found_here :
@@ -129,7 +128,7 @@ gave_late w w' e found =
     }
 
 -- beyond the horizon nothing lies ahead
-module _ (w w' : Deadlines) (skipped : Skipped w w') (beyond : w'.last < w'.processor.tick) where
+module _ (w w' : Deadlines) (skipped : Skipped w w') (beyond : w'.last < w'.running.processor.tick) where
   none_still : (e : LateRequest) → Still w e → ⊥
   none_still e s =
       let s' = skipped.still e s in
@@ -142,7 +141,7 @@ module _ (w w' : Deadlines) (skipped : Skipped w w') (beyond : w'.last < w'.proc
 
 -- from tick 0 and the first place on all late requests lie ahead
 pub all_ahead :
-    (w : Deadlines) (sheet : Sheet) → w.sheet.now ≡ sheet → w.processor.tick ≡ 0 → w.place ≡ 0 → (entries : List LateRequest) →
+    (w : Deadlines) (sheet : Sheet) → w.running.sheet.now ≡ sheet → w.running.processor.tick ≡ 0 → w.place ≡ 0 → (entries : List LateRequest) →
     LateAhead w entries → InOrder (IsLate (rows_of sheet)) entries
 all_ahead w sheet same start first entries =
     same_order (Still w) (IsLate (rows_of sheet)) entries (λ e s. subst (λ (all : Sheet). IsLate (rows_of all) e) same s.late) (λ e late.

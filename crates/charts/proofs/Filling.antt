@@ -25,7 +25,7 @@ module _ {W E : Type 0} (Ahead : W → List E → Type 0) (next : W → Option E
       subst (Ahead w) (append-nil given) (gave_ahead w last.0 given last.1 [] (gives last.0 None drained.0 last.2).0)
 
   -- what lies ahead begins with what a walk gave
-  pub only_ahead :
+  only_ahead :
       (w w' : W) (given : List E) → Yields next w given w' → (entries : List E) → Ahead w entries →
       (rest : List E) × (entries ≡ given ++ rest) × Ahead w' rest
   only_ahead w w' [] yields entries ahead = (entries, refl, subst (λ v. Ahead v entries) yields ahead)

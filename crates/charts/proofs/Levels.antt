@@ -41,7 +41,7 @@ at_place rows place d inside =
       start = get_or-map (λ row. row.start) rows place d 0 inside;
     }
 
-pub on_level : (level : ℕ) (rows : List SheetRow) (row : SheetRow) → row_on level rows ≡ Some row → (place : ℕ) × At rows place row × (row.level ≡ level)
+on_level : (level : ℕ) (rows : List SheetRow) (row : SheetRow) → row_on level rows ≡ Some row → (place : ℕ) × At rows place row × (row.level ≡ level)
 on_level level [] row is = absurd (grind arith)
 on_level level (other ∷ rows) row is = go (cases_eq other.level level) (on_level level rows row)
   where

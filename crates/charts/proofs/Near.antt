@@ -1,6 +1,6 @@
 -- How far the horizon of a sheet is.
-use Rattle.std.proofs.Common.{◌≡◌, ℕ, ◌<◌, ◌≤◌, max, List, [], ◌∷◌, arith}
-use Rattle.std.specs.List.{fold, AllByRecursion as All}
+use Rattle.std.proofs.Common.{◌≡◌, ℕ, ◌<◌, ◌≤◌, max, List, [], ◌∷◌, map, unwrap_or, refl, arith}
+use Rattle.std.specs.List.{fold, reduce, AllByRecursion as All}
 use Rattle.periods.specs.Multiples.{longest_period}
 use Rattle.tasks.specs.Figures.{Fair}
 use Rattle.sheets.specs.Checks.{Sound}
@@ -18,8 +18,11 @@ latest_short (row ∷ rows) fair timely =
 pub latest_near : (rows : List SheetRow) → Sound rows → latest_start rows ≤ longest_period
 latest_near rows sound = latest_short rows (fair_rows rows sound) (timely_rows rows sound)
 
--- the latest start, gathered row by row
-pub latest_gathered :
-    (rows : List SheetRow) (latest : ℕ) → fold (λ latest row. max row.start latest) latest rows ≡ max latest (latest_start rows)
-latest_gathered [] latest = omega arith
-latest_gathered (row ∷ rows) latest = let ih = latest_gathered rows (max row.start latest) in omega arith
+gathered : (rows : List SheetRow) (latest : ℕ) → fold max latest (map (λ row. row.start) rows) ≡ max latest (latest_start rows)
+gathered [] latest = omega arith
+gathered (row ∷ rows) latest = let ih = gathered rows (max latest row.start) in omega arith
+
+-- the latest start is the greatest of the starts, and 0 where there are none
+pub latest_of : (rows : List SheetRow) → unwrap_or (reduce max (map (λ row. row.start) rows)) 0 ≡ latest_start rows
+latest_of [] = refl
+latest_of (row ∷ rows) = gathered rows row.start

@@ -10,14 +10,12 @@ use Rattle.timeline.specs.Timeline.{task_at, request_of, deadline_of, done_by}
 use Rattle.timeline.proofs.Backlog.{sum_below_same}
 use Rattle.timeline.proofs.Lateness.{come_by_due, done-owing}
 use Rattle.timeline.proofs.Levels.{own_is}
-use Rattle.runner.specs.declared.processor.Processor.{Processor}
 use Rattle.sheets.specs.Checks.{Sound, tasks_in}
 use Rattle.sheets.specs.declared.row.SheetRow.{SheetRow}
 use Rattle.sheets.proofs.Held.{fair_rows}
 use Rattle.charts.specs.Dues.{DueAt, LateAt}
-use Rattle.charts.specs.Plans.{tasks_of, start_of, level_of, id_of, demands_of, from_zero}
-use Rattle.charts.proofs.Levels.{At, at_place, tasks_length, level_range, alone, top_free}
-use Rattle.charts.proofs.Shift.{owing_shift}
+use Rattle.charts.specs.Plans.{tasks_of, start_of, level_of, id_of, demands_of}
+use Rattle.charts.proofs.Levels.{At, at_place, tasks_length, level_range, alone}
 
 -- ids rise from place to place
 ids_least : (least : ℕ) (rows : List SheetRow) → Rising least (tasks_in rows) → (place : ℕ) → place < length rows → least ≤ id_of rows place
@@ -91,19 +89,12 @@ module _ (rows : List SheetRow) (sound : Sound rows) (place : ℕ) (row : SheetR
       (λ tick l. own_is (tasks_of rows) (start_of rows) (level_of rows) place inside (alone rows sound place at.inside) tick)
       ∙ come_by_due task.work task.period (start_of rows place) task.deadline k (omega arith) (omega arith)
 
-  -- a processor that stands there, with what the place's level owes
-  module _ (p : Processor) (tick : ℕ) (is-tick : tick ≡ p.tick)
-      (level left : ℕ) (is_level : level ≡ row.level) (is-left : owing (from_zero (demands_of rows)) p.tick (level - 1) ≡ left) where
-    owing_left : owing (demands_of rows) p.tick (level_of rows place) ≡ left
-    owing_left =
-        let range = level_range rows sound place at.inside in
-        let same = at.level in
-        let below : level_of rows place ≡ suc (level - 1) = omega arith in
-        ap (owing (demands_of rows) p.tick) below
-        ∙ owing_shift (demands_of rows) (top_free rows sound) p.tick (level - 1)
-        ∙ is-left
+  -- what the place's level owes at a tick
+  module _ (tick tick' : ℕ) (is-tick : tick ≡ tick') (left : ℕ) (is-left : left ≡ owing (demands_of rows) tick' row.level) where
+    owing_left : owing (demands_of rows) tick' (level_of rows place) ≡ left
+    owing_left = ap (owing (demands_of rows) tick') at.level ∙ sym is-left
 
-    pub not_owed : left ≡ 0 → LateAt rows place p.tick None
+    pub not_owed : left ≡ 0 → LateAt rows place tick' None
     not_owed none zero late = let l = late.1 in let z = zero-mul (task_at (tasks_of rows) place).work in omega arith
     not_owed none (suc k) late =
         let l = late.1 in
@@ -113,10 +104,10 @@ module _ (rows : List SheetRow) (sound : Sound rows) (place : ℕ) (row : SheetR
 
     pub still_owed :
         (request : ℕ) → DueAt row tick (Some request) → (left ≡ 0 → ⊥) →
-        LateAt rows place p.tick (Some (record { id = row.id; request = request; deadline = tick }))
+        LateAt rows place tick' (Some (record { id = row.id; request = request; deadline = tick }))
     still_owed request (zero, pos, is, due) owes = absurd (omega arith)
     still_owed request (suc k, pos, is, due) owes =
-        let due-here : deadline_of (tasks_of rows) (start_of rows) place (suc k) ≡ p.tick =
+        let due-here : deadline_of (tasks_of rows) (start_of rows) place (suc k) ≡ tick' =
         deadline_is (suc k) ∙ ap (λ r. r + row.figures.deadline) is ∙ due ∙ is-tick in
         let owed = owed_at k in
         let same = ap (λ tick. owing (demands_of rows) tick (level_of rows place)) due-here ∙ owing_left in

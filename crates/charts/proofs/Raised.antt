@@ -13,7 +13,7 @@ use Rattle.runner.specs.declared.not_taken.NotTaken.{NotTaken}
 use Rattle.runner.specs.declared.processor.Processor.{Processor}
 use Rattle.runner.specs.Adding.{not_taken}
 use Rattle.runner.specs.Processor.{count_of}
-use Rattle.runner.specs.Running.{Stands, Added, with_level, nothing}
+use Rattle.runner.specs.Running.{Stands, Added, with_level}
 use Rattle.sheets.specs.Checks.{Sound}
 use Rattle.sheets.proofs.Held.{few_rows, fair_rows, timely_rows}
 use Rattle.sheets.specs.declared.row.SheetRow.{SheetRow}
@@ -47,14 +47,6 @@ pub record Raised (rows : List SheetRow) (n : ℕ) (p : Processor) : Type 0 wher
   pub count : count_of p ≡ n
   pub stands : Stands (up_to n (from_zero (demands_of rows))) p
 
-pub none_raised : (rows : List SheetRow) (p : Processor) → p.tick ≡ 0 → count_of p ≡ 0 → Stands nothing p → Raised rows 0 p
-none_raised rows p start none stands =
-    record {
-      start = start;
-      count = none;
-      stands = stands_same nothing _ p start (λ level tick. grind (arith, nat_tests)) stands;
-    }
-
 module _ (rows : List SheetRow) (sound : Sound rows) (n : ℕ) (p : Processor) (so_far : Raised rows n p) where
   raised_one :
       (row : SheetRow) → row_on (suc n) rows ≡ Some row → (q : Processor) → Added p row.figures row.start q → Raised rows (n + 1) q
@@ -87,7 +79,7 @@ module _ (rows : List SheetRow) (sound : Sound rows) (n : ℕ) (p : Processor) (
               cond-false _ _ _ (ne_eqb level (count_of p) (λ e. ne (omega arith))) ∙ grind (arith, nat_tests)
 
   -- there is room for one row more
-  pub not_refused :
+  not_refused :
       (row : SheetRow) → row_on (suc n) rows ≡ Some row → n < length rows → (start : ℕ) → start ≡ row.start → not_taken p start ≡ None
   not_refused row is inside start same_start =
       let few = few_rows rows sound in

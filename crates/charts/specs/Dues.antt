@@ -28,8 +28,8 @@ LateAt rows place tick None = (k : ℕ) → LateNow rows place tick k → ⊥
 
 -- a late request that the walk has not passed
 pub record Still (w : Deadlines) (e : LateRequest) : Type 0 where
-  pub late : IsLate (rows_of w.sheet.now) e
-  pub later : (w.processor.tick < e.deadline) ⊎ ((e.deadline ≡ w.processor.tick) × (w.place ≤ late.place))
+  pub late : IsLate (rows_of w.running.sheet.now) e
+  pub later : (w.running.processor.tick < e.deadline) ⊎ ((e.deadline ≡ w.running.processor.tick) × (w.place ≤ late.place))
 
 -- these requests, in order
 abbrev pub LateAhead : Deadlines → List LateRequest → Type 0
@@ -37,7 +37,7 @@ LateAhead w = InOrder (Still w)
 
 -- how many places lie ahead at most
 abbrev pub places_left : Deadlines → ℕ
-places_left w = (w.last + 1 - w.processor.tick) * most_tasks - w.place
+places_left w = (w.last + 1 - w.running.processor.tick) * most_tasks - w.place
 
 -- the walk has passed no late request
 pub record Skipped (w w' : Deadlines) : Type 0 where
@@ -56,4 +56,4 @@ pub record Found (w : Deadlines) (e : LateRequest) (w' : Deadlines) : Type 0 whe
 abbrev pub NextHere : Deadlines → Option LateRequest → Deadlines → Type 0
 NextHere w (Some e) w' = Found w e w'
 NextHere w None w' =
-    Skipped w w' × (w'.processor.tick ≡ w.processor.tick) × (w'.last ≡ w.last) × (length (rows_of w'.sheet.now) ≤ w'.place)
+    Skipped w w' × (w'.running.processor.tick ≡ w.running.processor.tick) × (w'.last ≡ w.last) × (length (rows_of w'.running.sheet.now) ≤ w'.place)

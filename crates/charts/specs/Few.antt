@@ -5,7 +5,7 @@ use Rattle.charts.specs.Dues.{places_left}
 use Rattle.charts.specs.declared.bars.Bars.{Bars}
 use Rattle.charts.specs.declared.deadlines.Deadlines.{Deadlines}
 
-pub bars_few : (w : Bars) → w.to - w.processor.tick < 2 ^ 32
+pub bars_few : (w : Bars) → w.to - w.running.processor.tick < 2 ^ 32
 bars_few w = omega arith
 
 pub deadlines_few : (w : Deadlines) → places_left w < 2 ^ 32

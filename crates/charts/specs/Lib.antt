@@ -5,5 +5,6 @@ pub mod Inspections
 pub mod LateRequests
 pub mod Listing
 pub mod Plans
+pub mod Runs
 pub mod Walks
 pub mod Windows

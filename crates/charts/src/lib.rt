@@ -12,6 +12,7 @@ mod bars;
 mod deadlines;
 mod inspection;
 mod plan;
+mod running;
 #[cfg(test)]
 mod tests;
 mod walk;

@@ -7,20 +7,13 @@ use std::ops::Range;
 use std::test::Fail;
 use tasks::Figures;
 
-fn row(id: u8, work: u16, period: u16, start: u16) -> SheetRow {
-    SheetRow {
-        id,
-        figures: Figures::new(work, period, period),
-        start,
-        level: id,
-    }
-}
-
 // The third task starts at a tick, the others at 0.
 fn sheet(start: u16) -> Result<Sheet, Fail> {
-    Sheet::form(&[row(1, 3, 8, 0), row(2, 6, 12, 0), row(3, 1, 12, start)]).map_err(|_| Fail::new(
-        "no sheet",
-    ))
+    Ok(Sheet::form(&[
+        SheetRow::new(1, Figures::new(3, 8, 8), 0, 1),
+        SheetRow::new(2, Figures::new(6, 12, 12), 0, 2),
+        SheetRow::new(3, Figures::new(1, 12, 12), start, 3),
+    ])?)
 }
 
 fn bar(first: u32, length: u32, id: u8) -> Bar {

@@ -26,7 +26,7 @@ pub fn fill<E: Copy, W: Walk<E> + Copy>(walk: W, list: &mut List<E>) -> Result<(
 {
     list.clear_for(walk.count())?;
     for entry in walk {
-        list.add(entry)?;
+        list.add(entry).unwrap();
     }
     Ok(())
 }

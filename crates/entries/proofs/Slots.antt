@@ -1,12 +1,6 @@
 -- Slots of a slice of which the front is filled.
 use Rattle.std.proofs.Common.{◌≡◌, ℕ, suc, ◌<◌, ◌≤◌, List, [], ◌∷◌, ◌++◌, length, take, drop, set, append_assoc, arith}
 use Rattle.std.proofs.lemmas.List.{set_split, length_push, length-take-le}
-use Rattle.entries.specs.declared.list.List.{List as EntryList}
-use Rattle.entries.specs.Lists.{held, slots_of}
-
--- a list holds as many entries as it counts
-pub length-held : {E : Type 0} (l : EntryList E) → length (held l) ≡ l.len
-length-held l = length-take-le l.len (slots_of l) l.within
 
 -- an entry in the first slot that is not filled leaves those beyond
 pub set_next : {E : Type 0} (slots : List E) (n : ℕ) (e : E) → n < length slots → set slots n e ≡ (take n slots ++ e ∷ []) ++ drop (length (take n slots ++ e ∷ [])) slots

@@ -130,29 +130,44 @@ case_formed percent judged rows given (Err refusal) same sound as-given is both 
     let z : ◌≡◌ {A = ℕ} 0 1 = cc in
     omega arith
 
+-- what is meant, and what is reckoned, of the judged task in another case
+abbrev pub MeaningIn : Meaning → Case → Judged → Type 0
+MeaningIn M case judged = M (tasks_of case) (starts_of case) judged.place (has judged.above.now)
+
+abbrev pub ReckonedIn : Reckoning → Case → Judged → ℕ → Type 0
+ReckonedIn N case judged n = N (tasks_of case) (starts_of case) judged.place (has judged.above.now) n
+
 -- the same task judged in the stretched case: what the judge below says of it, it says with the margin
-module _
-    (percent : ℕ) (M : Meaning) (judged below : Judged) (stretches : StretchedCase percent judged (Some below.case.now))
-    (place : below.place ≡ judged.place) (above : below.above.now ≡ judged.above.now) where
-  -- what holds of the one holds of the other
-  same_task :
-      (K : Meaning) →
-      MeaningAt K below
-      ≡ K (stretched percent (tasks_of judged.case.now) judged.place (has judged.above.now)) (starts_of judged.case.now) judged.place (has judged.above.now)
-  same_task K = λ i. K (stretches.1 i) (stretches.2 i) (place i) (has (above i))
+module _ (percent : ℕ) (M : Meaning) (judged : Judged) where
+  module _ (changed : Case) (stretches : StretchedCase percent judged (Some changed)) where
+    -- what holds of the one holds of the other
+    same_task :
+        (K : Meaning) →
+        MeaningIn K changed judged
+        ≡ K (stretched percent (tasks_of judged.case.now) judged.place (has judged.above.now)) (starts_of judged.case.now) judged.place (has judged.above.now)
+    same_task K = λ i. K (stretches.1 i) (stretches.2 i) judged.place (has judged.above.now)
 
-  means : (K : Meaning) → MeaningAt K below → MeaningAt (WithMargin percent K) judged
-  means K holds = (stretches.0, subst (λ T. T) (same_task K) holds)
+    means : (K : Meaning) → MeaningIn K changed judged → MeaningAt (WithMargin percent K) judged
+    means K holds = (stretches.0, subst (λ T. T) (same_task K) holds)
 
-  meant : MeaningAt (WithMargin percent M) judged → MeaningAt M below
-  meant holds = subst (λ T. T) (sym (same_task M)) holds.1
+    meant : MeaningAt (WithMargin percent M) judged → MeaningIn M changed judged
+    meant holds = subst (λ T. T) (sym (same_task M)) holds.1
 
-  pub ruled_with_margin : (ruled : Bool) → Rules ruled (MeaningAt M below) → Rules ruled (MeaningAt (WithMargin percent M) judged)
-  ruled_with_margin true holds = means M holds
-  ruled_with_margin false not = λ holds. not (meant holds)
+    pub told_with_margin :
+        (N : Reckoning) (told : Option ℕ) → Tells told (MeaningIn M changed judged) (ReckonedIn N changed judged) →
+        Tells told (MeaningAt (WithMargin percent M) judged) (ReckonedAt (ReckonsWithMargin percent N) judged)
+    told_with_margin N (Some n) reckoned = means (λ tasks starts place above. N tasks starts place above n) reckoned
+    told_with_margin N None not = λ holds. not (meant holds)
 
-  pub told_with_margin :
-      (N : Reckoning) (told : Option ℕ) → Tells told (MeaningAt M below) (ReckonedAt N below) →
-      Tells told (MeaningAt (WithMargin percent M) judged) (ReckonedAt (ReckonsWithMargin percent N) judged)
-  told_with_margin N (Some n) reckoned = means (λ tasks starts place above. N tasks starts place above n) reckoned
-  told_with_margin N None not = λ holds. not (meant holds)
+    ruled : (r : Bool) → Rules r (MeaningIn M changed judged) → Rules r (MeaningAt (WithMargin percent M) judged)
+    ruled true holds = means M holds
+    ruled false not = λ holds. not (meant holds)
+
+  -- no, where the case cannot be stretched
+  pub ruled_with_margin :
+      (case : Option Case) (r : Bool) → StretchedCase percent judged case → (case ≡ None → r ≡ false) →
+      ((changed : Case) → case ≡ Some changed → Rules r (MeaningIn M changed judged)) →
+      Rules r (MeaningAt (WithMargin percent M) judged)
+  ruled_with_margin (Some changed) r stretches none some = ruled changed stretches r (some changed refl)
+  ruled_with_margin None r stretches none some =
+      subst (λ r. Rules r (MeaningAt (WithMargin percent M) judged)) (sym (none refl)) (λ holds. stretches holds.0)

@@ -10,30 +10,22 @@ fn task(work: u16, period: u16) -> Timed {
     }
 }
 
-fn places(each: &[usize]) -> Places {
-    let mut places = Places::none();
-    for place in each {
-        places.add(*place);
-    }
-    places
-}
-
 #[test]
 fn worst_start_counts_what_comes_from_above(rt: HostRuntime) -> Result<(), Fail> {
     let case = Case::form(&[task(3, 8), task(6, 12), task(1, 12)])?;
-    assert_eq!(rt; WorstStart.response(case.judged(0, &places(&[]))), Some(3));
-    assert_eq!(rt;
-        WorstStart.response(case.judged(1, &places(&[0]))),
-        Some(12)
-    );
-    assert_eq!(rt; WorstStart.response(case.judged(2, &places(&[0, 1]))), None);
-    assert_eq!(rt; WorstStart.response(case.judged(3, &places(&[0]))), None);
+    let none = Places::none();
+    let first = Places::from_fn(|place| place == 0);
+    let two = Places::from_fn(|place| place < 2);
+    assert_eq!(rt; WorstStart.response(case.judged(0, &none)), Some(3));
+    assert_eq!(rt; WorstStart.response(case.judged(1, &first)), Some(12));
+    assert_eq!(rt; WorstStart.response(case.judged(2, &two)), None);
+    assert_eq!(rt; WorstStart.response(case.judged(3, &first)), None);
     Ok(())
 }
 
 #[test]
 fn tick_counts_the_starts(rt: HostRuntime) -> Result<(), Fail> {
-    let every = places(&[0, 1, 2, 7]);
+    let every = Places::from_fn(|place| [0, 1, 2, 7].contains(&place));
     let common = Case::form(&[task(3, 8), task(6, 12), task(1, 12)])?;
     assert!(rt; !Tick.rule(common.judged(2, &every)));
     assert!(rt; !WorstStart.rule(common.judged(2, &every)));
@@ -51,7 +43,7 @@ fn tick_counts_the_starts(rt: HostRuntime) -> Result<(), Fail> {
 
 #[test]
 fn margin_rounds_up_each_time(rt: HostRuntime) -> Result<(), Fail> {
-    let alone = places(&[]);
+    let alone = Places::none();
     let case = Case::form(&[task(11, 14)])?;
     assert_eq!(rt;
         Margin::new(21, WorstStart)?.response(case.judged(0, &alone)),

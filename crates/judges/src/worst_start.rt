@@ -55,7 +55,7 @@ fn work_in(judged: Judged, ticks: u32) -> u32
     let mut work = u32::from(rows[judged.place].figures.work);
     // A loop: in a chain of `filter`, `map` and `sum` it stayed open that each row that comes has a period to divide by.
     for (place, row) in rows.iter().enumerate() {
-        if place != judged.place && judged.above.contains(place) {
+        if judged.is_above(place) {
             work += rounds(ticks, u32::from(row.figures.period)) * u32::from(row.figures.work);
         }
     }

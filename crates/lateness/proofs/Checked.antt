@@ -1,8 +1,8 @@
 -- Requests of a task that are checked one after the other.
-use Rattle.std.proofs.Common.{◌≡◌, ℕ, zero, suc, ◌+◌, ◌-◌, ◌*◌, ◌<◌, ◌≤◌, max, ◌⊎◌, List, length, sym, refl, ap, ◌∙◌, subst, inl, inr, mul-le-mul_right, suc-mul, zero-mul, arith}
+use Rattle.std.proofs.Common.{◌≡◌, ℕ, zero, suc, ◌+◌, ◌-◌, ◌*◌, ◌<◌, ◌≤◌, max, ◌⊎◌, List, length, Some, None, Option, sym, ap, ◌∙◌, subst, inl, inr, mul-le-mul_right, suc-mul, zero-mul, arith}
 use Rattle.std.proofs.lemmas.Bool.{cases_lt}
 use Rattle.tasks.specs.declared.figures.Figures.{Figures}
-use Rattle.timeline.specs.Processor.{Demands, sum_below, owing}
+use Rattle.timeline.specs.Processor.{Demands, sum_below, owing, done}
 use Rattle.timeline.specs.Requests.{requested}
 use Rattle.timeline.specs.Timeline.{task_at, request_of, deadline_of, done_by, Late, NeverLate, Finished, Finish, WorstResponse}
 use Rattle.timeline.specs.Laws.{AllFair, Spans, through, load_through, Alone}
@@ -15,7 +15,7 @@ use Rattle.timeline.proofs.Related.{has_finish}
 use Rattle.runner.specs.Processor.{left_on}
 use Rattle.runner.specs.declared.processor.Processor.{Processor}
 use Rattle.runner.specs.Running.{Stands}
-use Rattle.lateness.specs.Running.{Stopped, RanOn}
+use Rattle.lateness.specs.Running.{Stopped, LastRun, RanOn}
 use Rattle.lateness.specs.Served.{ServedAs}
 use Rattle.lateness.proofs.Stops.{done_later}
 
@@ -31,16 +31,6 @@ module _ (tasks : List Figures) (starts levels : ℕ → ℕ) (q : ℕ) where
     pub short : worst ≤ (task_at tasks q).deadline
     pub within : (j : ℕ) → 1 ≤ j → j ≤ k → Finished tasks starts levels q j (request_of tasks starts q j + worst)
     pub takes : ((k ≡ 0) × (worst ≡ 0)) ⊎ Takes worst
-
-  pub none_checked : Checked 0 0 0
-  none_checked =
-      record {
-        done_so_far = omega arith;
-        passed = omega arith;
-        short = omega arith;
-        within = λ j pos le. absurd (omega arith);
-        takes = inl (refl, refl);
-      }
 
 -- A task on a level of its own, served as on the level of a processor with the demands D.
 module _ (tasks : List Figures) (fair : AllFair tasks) (starts levels : ℕ → ℕ) (q : ℕ) (inside : q < length tasks)
@@ -95,6 +85,17 @@ module _ (tasks : List Figures) (fair : AllFair tasks) (starts levels : ℕ → 
       let f = fair q inside in
       let e = come (request (suc k)) in
       let u = ap (sum_below (requested c t (starts q))) (request_at_lem k) ∙ up_to_request c t (starts q) k (omega arith) in
+      omega arith
+
+  -- a request is late if the level does not run up to its deadline from a tick by which those before it are checked
+  pub late_unrun :
+      (k tick worst : ℕ) → Checked tasks starts levels q k tick worst → done D level (due (suc k)) ≡ done D level tick → Late tasks starts levels q (suc k)
+  late_unrun k tick worst so_far same =
+      let f = fair q inside in
+      let d = so_far.done_so_far in
+      let s = served.same tick in
+      let u = served.same (due (suc k)) in
+      let m = suc-mul k c in
       omega arith
 
   -- One more request is checked, up to its deadline, with nothing left there; the level stopped at `stop`.
@@ -208,10 +209,10 @@ pub record Checking (tasks : List Figures) (starts levels : ℕ → ℕ) (q leve
   pub at : request ≡ request_of tasks starts q (suc k)
   pub checked : Checked tasks starts levels q k p.tick worst
 
--- The processor ran to the deadline of the next request, and the level stopped at `stop`.
+-- The processor ran to the deadline of the next request, and the level last ran up to `last`, if it ran.
 module _ (tasks : List Figures) (fair : AllFair tasks) (starts levels : ℕ → ℕ) (q : ℕ) (inside : q < length tasks)
     (level : ℕ) (p : Processor) (next worst : ℕ) (checking : Checking tasks starts levels q level p next worst)
-    (stop : ℕ) (p' : Processor) (ran : RanOn p level stop p') (there : p'.tick ≡ next + (task_at tasks q).deadline) where
+    (last : Option ℕ) (p' : Processor) (ran : RanOn p level last p') (there : p'.tick ≡ next + (task_at tasks q).deadline) where
   at_due : p'.tick ≡ deadline_of tasks starts q (suc checking.k)
   at_due = there ∙ ap (λ r. r + (task_at tasks q).deadline) checking.at
 
@@ -222,10 +223,19 @@ module _ (tasks : List Figures) (fair : AllFair tasks) (starts levels : ℕ → 
   found_late some =
       (suc checking.k, late_here tasks fair starts levels q inside checking.D level checking.served checking.k (omega (arith, owed)))
 
-  module _ (none : left_on p' level ≡ 0) where
+  last_by_due : LastRun checking.D level p.tick (deadline_of tasks starts q (suc checking.k)) last
+  last_by_due = subst (λ tick. LastRun checking.D level p.tick tick last) at_due (ran.stopped checking.D checking.stands)
+
+  pub found_unrun : last ≡ None → (k : ℕ) × Late tasks starts levels q k
+  found_unrun unrun = (
+    suc checking.k,
+    late_unrun tasks fair starts levels q inside checking.D level checking.served checking.k p.tick worst checking.checked
+        (subst (LastRun checking.D level p.tick (deadline_of tasks starts q (suc checking.k))) unrun last_by_due),
+  )
+
+  module _ (none : left_on p' level ≡ 0) (stop : ℕ) (is : last ≡ Some stop) where
     stopped_at_due : Stopped checking.D level p.tick (deadline_of tasks starts q (suc checking.k)) stop
-    stopped_at_due =
-        subst (λ tick. Stopped checking.D level p.tick tick stop) at_due (ran.stopped checking.D checking.stands)
+    stopped_at_due = subst (LastRun checking.D level p.tick (deadline_of tasks starts q (suc checking.k))) is last_by_due
 
     pub after_request : next ≤ stop
     after_request =

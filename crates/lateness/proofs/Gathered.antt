@@ -60,15 +60,17 @@ module _ (m : Members) where
         | inr ne ↦ before q (omega arith) inside member
       ]
 
-  -- the load of the members passed goes on
-  module _ (ticks i : ℕ) (short : ticks ≤ longest_common_period) (load : ℕ)
-      (so_far : (load ≡ sum_below (counted (is_member m) (share (tasks_in m) ticks)) i) × (load ≤ i * longest_common_period)) where
+  -- the load of the members before a place, each with at most a common period of work
+  abbrev pub Loaded : ℕ → ℕ → ℕ → Type 0
+  Loaded ticks load i =
+      (load ≡ sum_below (counted (is_member m) (share (tasks_in m) ticks)) i) × (load ≤ i * longest_common_period)
+
+  module _ (ticks load i : ℕ) where
     pub load_more :
+        ticks ≤ longest_common_period → Loaded ticks load i →
         (member : TimedTask) → MemberAt m i (Some member) → (figures : Figures) (work period : ℕ) → figures ≡ member.task.figures →
-        work ≡ figures.work → period ≡ figures.period →
-        (load + work * (ticks / period) ≡ sum_below (counted (is_member m) (share (tasks_in m) ticks)) (i + 1))
-        × (load + work * (ticks / period) ≤ (i + 1) * longest_common_period)
-    load_more member at figures work period is w p =
+        work ≡ figures.work → period ≡ figures.period → Loaded ticks (load + work * (ticks / period)) (i + 1)
+    load_more short so_far member at figures work period is w p =
         let fits = work_fits (task_at (tasks_in m) i) ticks (fair_in i at.0) in
         let same : figures ≡ task_at (tasks_in m) i = is ∙ sym at.2 in
         let units : work * (ticks / period) ≡ share (tasks_in m) ticks i =
@@ -78,10 +80,8 @@ module _ (m : Members) where
         let counts = cond-true (is_member m i) (share (tasks_in m) ticks i) 0 at.1 in
         (omega arith, omega arith)
 
-    pub load_rest :
-        (is_member m i ≡ true → ⊥) →
-        (load ≡ sum_below (counted (is_member m) (share (tasks_in m) ticks)) (i + 1)) × (load ≤ (i + 1) * longest_common_period)
-    load_rest none =
+    pub load_rest : (is_member m i ≡ true → ⊥) → Loaded ticks load i → Loaded ticks load (i + 1)
+    load_rest none so_far =
         let sum = ap (sum_below (counted (is_member m) (share (tasks_in m) ticks))) (add-one i) in
         let counts = cond-false (is_member m i) (share (tasks_in m) ticks i) 0 (not_true (is_member m i) none) in
         (omega arith, omega arith)
@@ -91,18 +91,20 @@ module _ (m : Members) where
         not_true false h = refl
 
   -- ts are the periods of the members before a place
-  pub record Gathered (i : ℕ) (ts : List ℕ) : Type 0 where
+  pub record Gathered (ts : List ℕ) (i : ℕ) : Type 0 where
     pub few : length ts ≤ i
     pub some : m.judged.place < i → 0 < length ts
     pub common :
         (n : ℕ) → CommonMultiple ts n → (q : ℕ) → q < i → q < length (tasks_in m) → is_member m q ≡ true → Divides (task_at (tasks_in m) q).period n
     pub only : (n : ℕ) → ((q : ℕ) → q < length (tasks_in m) → Divides (task_at (tasks_in m) q).period n) → CommonMultiple ts n
 
-  module _ (i : ℕ) (ts : List ℕ) (so_far : Gathered i ts) where
-    pub gathered_more : i < length (tasks_in m) → (t : ℕ) (ts' : List ℕ) → ts' ≡ ts ++ t ∷ [] → t ≡ (task_at (tasks_in m) i).period → Gathered (i + 1) ts'
-    gathered_more inside t ts' push is = subst (Gathered (i + 1)) (sym push) all
+  module _ (ts : List ℕ) (i : ℕ) where
+    pub gathered_more :
+        i < length (tasks_in m) → (t : ℕ) (ts' : List ℕ) → ts' ≡ ts ++ t ∷ [] → t ≡ (task_at (tasks_in m) i).period → Gathered ts i →
+        Gathered ts' (i + 1)
+    gathered_more inside t ts' push is so_far = subst (λ xs. Gathered xs (i + 1)) (sym push) all
       where
-        all : Gathered (i + 1) (ts ++ t ∷ [])
+        all : Gathered (ts ++ t ∷ []) (i + 1)
         all =
             record {
               few = omega (arith, so_far.few, length-append ts (t ∷ []));
@@ -112,8 +114,8 @@ module _ (m : Members) where
               only = λ n all. multiple_push ts t n (so_far.only n all) (subst (λ x. Divides x n) (sym is) (all i inside));
             }
 
-    pub gathered_rest : (is_member m i ≡ true → ⊥) → Gathered (i + 1) ts
-    gathered_rest none =
+    pub gathered_rest : (is_member m i ≡ true → ⊥) → Gathered ts i → Gathered ts (i + 1)
+    gathered_rest none so_far =
         record {
           few = omega (arith, so_far.few);
           some = λ l. elim (cases_eq m.judged.place i) [
@@ -135,7 +137,7 @@ module _ (m : Members) where
       (omega arith, omega arith)
 
   -- All members are gathered. Their common period divides that of the case.
-  module _ (i : ℕ) (ts : List ℕ) (proper : Proper ts) (gathered : Gathered i ts) (all : length (tasks_in m) ≤ i) where
+  module _ (ts : List ℕ) (i : ℕ) (proper : Proper ts) (gathered : Gathered ts i) (all : length (tasks_in m) ≤ i) where
     common_short : common_period ts ≤ longest_common_period
     common_short =
         let ours : CommonMultiple ts (common_period (periods_in (tasks_in m))) =

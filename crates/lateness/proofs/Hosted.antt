@@ -52,7 +52,7 @@ judged_alone tasks judged above p l e =
 
 module _ (m : Members) where
   -- the processor has those above at the places before i
-  pub record Raised (i : ℕ) (p : Processor) : Type 0 where
+  pub record Raised (p : Processor) (i : ℕ) : Type 0 where
     pub start : p.tick ≡ 0
     pub few : count_of p + cond (ltb m.judged.place i) 1 0 ≤ i
     pub D : Demands
@@ -63,7 +63,7 @@ module _ (m : Members) where
   member_above : (i : ℕ) → (i ≡ m.judged.place → ⊥) → is_member m i ≡ higher (levels_in m) m.judged.place i
   member_above i other = grind (arith, nat_tests)
 
-  module _ (i : ℕ) (p : Processor) (so_far : Raised i p) where
+  module _ (p : Processor) (i : ℕ) where
     -- the demand of those above, with that of the place
     joint_more :
         (tick : ℕ) →
@@ -74,8 +74,8 @@ module _ (m : Members) where
 
     pub raised_more :
         (q : Processor) → is_member m i ≡ true → (i ≡ m.judged.place → ⊥) → Added p (task_at (tasks_in m) i) (starts_in m i) q →
-        Raised (i + 1) q
-    raised_more q member other a =
+        Raised p i → Raised q (i + 1)
+    raised_more q member other a so_far =
         let n = a.count in
         let high = sym (member_above i other) ∙ member in
         record {
@@ -94,8 +94,8 @@ module _ (m : Members) where
         }
 
     -- a place that is not above leaves the processor as it is
-    raised_still : higher (levels_in m) m.judged.place i ≡ false → Raised (i + 1) p
-    raised_still low =
+    raised_still : higher (levels_in m) m.judged.place i ≡ false → Raised p i → Raised p (i + 1)
+    raised_still low so_far =
         record {
           start = so_far.start;
           few = let f = so_far.few in grind (arith, nat_tests);
@@ -108,10 +108,10 @@ module _ (m : Members) where
               omega arith;
         }
 
-    pub raised_rest : i ≡ m.judged.place → Raised (i + 1) p
+    pub raised_rest : i ≡ m.judged.place → Raised p i → Raised p (i + 1)
     raised_rest same = raised_still (grind (arith, nat_tests))
 
-    pub raised_skip : (is_member m i ≡ true → ⊥) → Raised (i + 1) p
+    pub raised_skip : (is_member m i ≡ true → ⊥) → Raised p i → Raised p (i + 1)
     raised_skip none = raised_still (grind (arith, nat_tests))
 
   -- what was put is the task at its place
@@ -123,15 +123,15 @@ module _ (m : Members) where
       (subst (λ figures. Added p figures timed.start q) (sym at.2) added)
 
   -- there is room for the judged task
-  pub raised_few : (i : ℕ) (p : Processor) → Raised i p → i ≡ length (tasks_in m) → count_of p < most_tasks
-  raised_few i p raised all =
-      let held = m.held in let f = raised.few in let few = few_in m in let past = lt-ltb m.judged.place i (omega arith) in let one : ◌≡◌ {A = ℕ} (cond (ltb m.judged.place i) 1 0) 1 = cond-true (ltb m.judged.place i) 1 0 past in omega arith
+  pub raised_few : (p : Processor) → Raised p (length (tasks_in m)) → count_of p < most_tasks
+  raised_few p raised =
+      let held = m.held in let f = raised.few in let few = few_in m in let past = lt-ltb m.judged.place (length (tasks_in m)) (omega arith) in let one : ◌≡◌ {A = ℕ} (cond (ltb m.judged.place (length (tasks_in m))) 1 0) 1 = cond-true (ltb m.judged.place (length (tasks_in m))) 1 0 past in omega arith
 
   -- all of those above, and the judged task below them
   pub hosted :
-      (i : ℕ) (p q : Processor) → i ≡ length (tasks_in m) → Raised i p → Added p (task_at (tasks_in m) m.judged.place) (starts_in m m.judged.place) q →
+      (p q : Processor) → Raised p (length (tasks_in m)) → Added p (task_at (tasks_in m) m.judged.place) (starts_in m m.judged.place) q →
       Hosts m q
-  hosted i p q all raised a =
+  hosted p q raised a =
       let held = m.held in
       let n = a.count in
       let own = demanded (tasks_in m) (starts_in m) m.judged.place in
@@ -144,7 +144,6 @@ module _ (m : Members) where
         served = subst (ServedAs (tasks_in m) (starts_in m) (levels_in m) m.judged.place (with_level raised.D (count_of p) (demanded (tasks_in m) (starts_in m) m.judged.place))) (sym level)
             (served_as (tasks_in m) (starts_in m) (levels_in m) m.judged.place held (judged_alone (tasks_in m) m.judged.place _) _ (count_of p)
             (λ tick.
-            sum_before raised.D (count_of p) own tick (count_of p) (omega arith) ∙ raised.above tick
-            ∙ ap (λ n. joint (higher (levels_in m) m.judged.place) (demanded (tasks_in m) (starts_in m)) n tick) all)
+            sum_before raised.D (count_of p) own tick (count_of p) (omega arith) ∙ raised.above tick)
             (λ tick. at_level raised.D (count_of p) own tick));
       }

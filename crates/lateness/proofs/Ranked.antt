@@ -17,15 +17,15 @@ use Rattle.runner.specs.Running.{Stands, Added, ToldAt, with_level}
 use Rattle.lateness.specs.Ordered.{level_of, Within, Only, OnlyPlace, IsOrder, demands_in, OrderedOn, RunsIn}
 
 module _ (case : Case) (levels : List ℕ) where
-  -- the levels 1 to i have one place each, and stand on the levels before i of a processor
-  pub record OrderedTo (i : ℕ) (p : Processor) : Type 0 where
+  -- the levels from 1 to below the next one have one place each, and stand on the levels of a processor
+  pub record OrderedTo (next : ℕ) (p : Processor) : Type 0 where
     pub start : p.tick ≡ 0
-    pub count : count_of p ≡ i
-    pub each : (level : ℕ) → 1 ≤ level → level ≤ i → (place : ℕ) × Only levels level place
+    pub count : count_of p + 1 ≡ next
+    pub each : (level : ℕ) → 1 ≤ level → level < next → (place : ℕ) × Only levels level place
     pub D : Demands
     pub stands : Stands D p
-    pub same : (l : ℕ) → l < i → (tick : ℕ) → D l tick ≡ demands_in case levels (suc l) tick
-    pub rest : (l : ℕ) → i ≤ l → (tick : ℕ) → D l tick ≡ 0
+    pub same : (l : ℕ) → l < count_of p → (tick : ℕ) → D l tick ≡ demands_in case levels (suc l) tick
+    pub rest : (l : ℕ) → count_of p ≤ l → (tick : ℕ) → D l tick ≡ 0
 
   -- a level with one place demands what the task there does
   one_place :
@@ -36,14 +36,17 @@ module _ (case : Case) (levels : List ℕ) where
       ∙ own_is (tasks_of case) (starts_of case) (level_of levels) place (omega (arith, only.held))
       (λ p inside e. only.alone p (omega arith) (e ∙ only.has)) tick
 
-  ordered_next :
-      (i : ℕ) (p q : Processor) (place : ℕ) → OrderedTo i p → length levels ≡ length (tasks_of case) → Only levels (i + 1) place →
-      Added p (task_at (tasks_of case) place) (starts_of case place) q → OrderedTo (i + 1) q
-  ordered_next i p q place so_far all only added =
+  -- the place of the next level takes its task
+  pub ordered_more :
+      (next : ℕ) (p q : Processor) (place : ℕ) (timed : TimedTask) → OrderedTo next p → length levels ≡ length (tasks_of case) →
+      Only levels next place → TaskAt case place (Some timed) → Added p timed.task.figures timed.start q → OrderedTo (next + 1) q
+  ordered_more next p q place timed so_far all only task put =
+      let added : Added p (task_at (tasks_of case) place) (starts_of case place) q =
+      subst (λ start. Added p (task_at (tasks_of case) place) start q) (sym task.2) (subst (λ figures. Added p figures timed.start q) (sym (task.1 _)) put) in
       record {
         start = added.tick ∙ so_far.start;
         count = omega (arith, added.count, so_far.count);
-        each = λ level low high. elim (cases_eq level (i + 1)) [
+        each = λ level low high. elim (cases_eq level next) [
           | inl e ↦ (place, subst (λ l. Only levels l place) (sym e) only)
           | inr ne ↦ so_far.each level low (omega arith)
         ];
@@ -51,25 +54,13 @@ module _ (case : Case) (levels : List ℕ) where
         stands = added.stands so_far.D so_far.stands;
         same = λ l before tick. elim (cases_eq l (count_of p)) [
           | inl e ↦
-              cond-true (eqb l (count_of p)) _ _ (eq-eqb l (count_of p) e) ∙ sym (one_place (i + 1) place only all tick)
-              ∙ ap (λ n. demands_in case levels n tick) (let x : i + 1 ≡ suc l = omega (arith, so_far.count) in x)
-          | inr ne ↦ cond-false (eqb l (count_of p)) _ _ (ne_eqb l (count_of p) ne) ∙ so_far.same l (omega (arith, so_far.count)) tick
+              cond-true (eqb l (count_of p)) _ _ (eq-eqb l (count_of p) e) ∙ sym (one_place next place only all tick)
+              ∙ ap (λ n. demands_in case levels n tick) (let x : next ≡ suc l = omega (arith, so_far.count) in x)
+          | inr ne ↦ cond-false (eqb l (count_of p)) _ _ (ne_eqb l (count_of p) ne) ∙ so_far.same l (omega (arith, added.count)) tick
         ];
         rest = λ l past tick.
-            cond-false (eqb l (count_of p)) _ _ (ne_eqb l (count_of p) (λ e. omega (arith, so_far.count))) ∙ so_far.rest l (omega arith) tick;
+            cond-false (eqb l (count_of p)) _ _ (ne_eqb l (count_of p) (λ e. omega (arith, added.count))) ∙ so_far.rest l (omega (arith, added.count)) tick;
       }
-
-  -- the place of the next level takes its task
-  pub ordered_more :
-      (level : ℕ) (p q : Processor) (place : ℕ) (timed : TimedTask) → 1 ≤ level → OrderedTo (level - 1) p →
-      length levels ≡ length (tasks_of case) → Only levels level place → TaskAt case place (Some timed) →
-      Added p timed.task.figures timed.start q → OrderedTo level q
-  ordered_more level p q place timed low so_far all only task added =
-      let next : level - 1 + 1 ≡ level = omega arith in
-      subst (λ i. OrderedTo i q) next
-      (ordered_next (level - 1) p q place so_far all (subst (λ l. Only levels l place) (sym next) only)
-      (subst (λ start. Added p (task_at (tasks_of case) place) start q) (sym task.2)
-      (subst (λ figures. Added p figures timed.start q) (sym (task.1 _)) added)))
 
   -- All levels are there.
   module _ (within : Within levels) where
@@ -84,10 +75,10 @@ module _ (case : Case) (levels : List ℕ) where
         ∙ sum_below_none (length (tasks_of case))
 
     pub ordered_all :
-        (i : ℕ) (p : Processor) → OrderedTo i p → i ≡ length levels → length levels ≡ length (tasks_of case) →
+        (level : ℕ) (p : Processor) → OrderedTo (level + 1) p → level ≡ length levels → length levels ≡ length (tasks_of case) →
         IsOrder case levels × (p.tick ≡ 0) × Stands (λ level. demands_in case levels (suc level)) p
-    ordered_all i p so_far full all = (
-      record { all = all; within = within; each = λ level low high. so_far.each level low (omega arith) },
+    ordered_all level p so_far full all = (
+      record { all = all; within = within; each = λ l low high. so_far.each l low (omega arith) },
       so_far.start,
       record {
         owes = λ l.
@@ -99,9 +90,9 @@ module _ (case : Case) (levels : List ℕ) where
       where
         same : (l tick : ℕ) → so_far.D l tick ≡ demands_in case levels (suc l) tick
         same l tick =
-            elim (cases_lt l i) [
+            elim (cases_lt l (count_of p)) [
               | inl before ↦ so_far.same l before tick
-              | inr past ↦ so_far.rest l past tick ∙ sym (no_place (suc l) (inr (omega arith)) all tick)
+              | inr past ↦ so_far.rest l past tick ∙ sym (no_place (suc l) (inr (omega (arith, so_far.count))) all tick)
             ]
 
 -- The levels from 1 are those of a processor from 0: level 0 has no task.
@@ -153,10 +144,6 @@ rests_always D level none tick run =
 module _ (case : Case) (levels : List ℕ) (tick : ℕ) (p : Processor) (on : OrderedOn case levels (Some p)) where
   none_first : (σ : ℕ) → demands_in case levels 0 σ ≡ 0
   none_first σ = no_place case levels on.0.within 0 (inl refl) on.0.all σ
-
-  pub told_none : ToldAt p tick None → RunsIn case levels tick None
-  told_none (inl over) = absurd (omega (arith, on.1))
-  told_none (inr late) = inr late
 
   pub told_idle : ToldAt p tick (Some None) → RunsIn case levels tick (Some None)
   told_idle told = (on.0, told.1, idle_shift (demands_in case levels) none_first tick (told.2 _ on.2))

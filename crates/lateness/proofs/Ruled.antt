@@ -1,33 +1,40 @@
--- From the worst response to the ruling.
-use Rattle.std.proofs.Common.{◌≡◌, ℕ, ◌*◌, ◌≤◌, Bool, true, false, not, length, is_some, Some, None, MatchBool, Option, refl, ap, ◌∙◌, inl, inr, mul-zero, arith}
+-- From the members of a judged place to the answer for that place.
+use Rattle.std.proofs.Common.{◌≡◌, ℕ, ◌*◌, ◌≤◌, Bool, false, not, length, is_some, Some, None, MatchBool, Option, MatchOption, ap, ◌∙◌, inr, mul-zero, sym, subst, arith}
 use Rattle.std.proofs.lemmas.List.{get_or_past}
 use Rattle.tasks.specs.declared.case.Case.{Case}
+use Rattle.tasks.specs.declared.judged.Judged.{Judged}
 use Rattle.tasks.specs.declared.places.Places.{Places}
-use Rattle.tasks.specs.declared.task.TimedTask.{TimedTask}
-use Rattle.tasks.specs.Cases.{tasks_of, TaskAt}
-use Rattle.lateness.specs.Below.{LateBelow, NeverLateBelow, Responds}
+use Rattle.tasks.specs.Cases.{tasks_of}
+use Rattle.lateness.specs.declared.members.Members.{Members}
+use Rattle.lateness.specs.Below.{LateBelow, NeverLateBelow, Responds, RespondsIn}
+use Rattle.lateness.specs.Members.{MembersOf}
 
-pub differ : {b : Bool} → b ≡ true → b ≡ false → ⊥
-differ t f = let z : ◌≡◌ {A = ℕ} 0 1 = cc in omega arith
+-- without a task nothing is late
+no_task : (case : Case) (judged : ℕ) (above : Places) → length (tasks_of case) ≤ judged → NeverLateBelow case judged above
+no_task case judged above past k late =
+    let none = ap (λ f. k * f.work) (get_or_past (tasks_of case) judged (record { work = 0; period = 0; deadline = 0 }) past) ∙ mul-zero k in omega arith
 
-module _ (case : Case) (judged : ℕ) (above : Places) where
-  -- without a task nothing is late
-  no_task : length (tasks_of case) ≤ judged → NeverLateBelow case judged above
-  no_task past k late =
-      let none = ap (λ f. k * f.work) (get_or_past (tasks_of case) judged (record { work = 0; period = 0; deadline = 0 }) past) ∙ mul-zero k in omega arith
+-- whether a judged task is ever late
+abbrev pub Rules : Judged → Bool → Type 0
+Rules judged r =
+    MatchBool r (LateBelow judged.case.now judged.place judged.above.now) (NeverLateBelow judged.case.now judged.place judged.above.now)
 
-  pub ruled_task :
-      (task : Option TimedTask) (response : Option ℕ) (r : Bool) → TaskAt case judged task → is_some task ≡ true → Responds case judged above response →
-      is_some response ≡ not r → MatchBool r (LateBelow case judged above) (NeverLateBelow case judged above)
-  ruled_task None response r at some responds is = absurd (differ some refl)
-  ruled_task (Some task) (Some response) true at some responds is = absurd (differ refl is)
-  ruled_task (Some task) (Some response) false at some responds is = responds.1
-  ruled_task (Some task) None true at some (inl past) is = absurd (omega (arith, at.0))
-  ruled_task (Some task) None true at some (inr late) is = late
-  ruled_task (Some task) None false at some responds is = absurd (differ is refl)
+module _ (judged : Judged) where
+  pub responds :
+      (m : Members) (response : Option ℕ) → m.judged ≡ judged → RespondsIn m response →
+      Responds judged.case.now judged.place judged.above.now response
+  responds m response of found = subst (λ j. Responds j.case.now j.place j.above.now response) of (go response found)
+    where
+      go : (r : Option ℕ) → RespondsIn m r → Responds m.judged.case.now m.judged.place m.judged.above.now r
+      go (Some worst) found = (m.held, found.0, found.1)
+      go None late = inr late
 
-  pub ruled_none :
-      (task : Option TimedTask) → TaskAt case judged task → is_some task ≡ false →
-      MatchBool (is_some task) (LateBelow case judged above) (NeverLateBelow case judged above)
-  ruled_none None at none = no_task at
-  ruled_none (Some task) at none = absurd (differ refl none)
+  pub ruled :
+      (members : Option Members) (r : Bool) → MembersOf judged members →
+      MatchOption members (r ≡ false) (λ m. (response : Option ℕ) × RespondsIn m response × (r ≡ not (is_some response))) → Rules judged r
+  ruled None r past is = subst (Rules judged) (sym is) (no_task judged.case.now judged.place judged.above.now past)
+  ruled (Some m) r of (response, found, is) = subst (Rules judged) (sym is) (subst (λ j. Rules j (not (is_some response))) of (go response found))
+    where
+      go : (o : Option ℕ) → RespondsIn m o → Rules m.judged (not (is_some o))
+      go (Some worst) found = found.0
+      go None late = late

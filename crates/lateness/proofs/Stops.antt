@@ -1,6 +1,5 @@
 -- A level while a processor runs on.
-use Rattle.std.proofs.Common.{◌≡◌, ◌==◌, ℕ, zero, suc, ◌+◌, ◌-◌, ◌<◌, ◌≤◌, true, false, ◌⊎◌, Some, None, Option, sym, refl, ap, ◌∙◌, subst, inl, inr, add-zero, add-suc, arith}
-use Rattle.std.specs.Option.{option_eq}
+use Rattle.std.proofs.Common.{◌≡◌, ℕ, zero, suc, ◌+◌, ◌-◌, ◌<◌, ◌≤◌, true, false, ◌⊎◌, Some, None, Option, sym, refl, ap, ◌∙◌, subst, inl, inr, add-zero, add-suc, arith}
 use Rattle.std.proofs.lemmas.Bool.Decides.{nat_tests}
 use Rattle.std.proofs.lemmas.Bool.{cases_lt, cases_order}
 use Rattle.timeline.specs.Processor.{Demands, ready, runs, done}
@@ -8,7 +7,7 @@ use Rattle.runner.specs.declared.processor.Processor.{Processor}
 use Rattle.runner.specs.declared.span.Span.{Span}
 use Rattle.runner.specs.Running.{Stands, RunsAt, Ran}
 use Rattle.timeline.proofs.Backlog.{part_le}
-use Rattle.lateness.specs.Running.{Stopped, RanOn}
+use Rattle.lateness.specs.Running.{Stopped, LastRun, RanOn}
 
 pub done_rises : (D : Demands) (level a n : ℕ) → done D level a ≤ done D level (a + n)
 done_rises D level a zero = let e = ap (done D level) (add-zero a) in omega arith
@@ -46,7 +45,7 @@ rests D level a (suc n) none =
     ap (done D level) (add-suc a n) ∙ grind (arith, nat_tests)
 
 -- One more span, from p to q, of a run that began at `from`.
-module _ (D : Demands) (level from tick : ℕ) (p q : Processor) (end : ℕ) (span : Span) (ran : Ran p end span q) (stands : Stands D p) where
+module _ (D : Demands) (level from : ℕ) (p q : Processor) (end : ℕ) (span : Span) (ran : Ran p end span q) (stands : Stands D p) where
   stopped_here : from ≤ p.tick → span.runs ≡ Some level → Stopped D level from q.tick q.tick
   stopped_here before here =
       let r = ran in
@@ -64,13 +63,19 @@ module _ (D : Demands) (level from tick : ℕ) (p q : Processor) (end : ℕ) (sp
         ];
       }
 
-  stopped_before : (span.runs ≡ Some level → ⊥) → Stopped D level from p.tick tick → Stopped D level from q.tick tick
-  stopped_before other stopped =
+  -- what the level has done, where it did not run
+  same : (span.runs ≡ Some level → ⊥) → done D level q.tick ≡ done D level p.tick
+  same other =
+      let r = ran in
+      ap (done D level) (ran.to ∙ ap (λ n. n + span.length) ran.from)
+      ∙ rests D level p.tick span.length (λ i l. other_rests D span.runs level (p.tick + i) other (ran.runs D stands (p.tick + i) (omega arith) (omega arith)))
+
+  stopped_before : (last : Option ℕ) → (span.runs ≡ Some level → ⊥) → LastRun D level from p.tick last → LastRun D level from q.tick last
+  stopped_before None other stopped = same other ∙ stopped
+  stopped_before (Some tick) other stopped =
       let r = ran in
       let s = stopped in
-      let same = ap (done D level) (ran.to ∙ ap (λ n. n + span.length) ran.from) ∙
-      rests D level p.tick span.length (λ i l. other_rests D span.runs level (p.tick + i) other (ran.runs D stands (p.tick + i) (omega arith) (omega arith)))
-      in
+      let same = same other in
       record {
         after = omega arith;
         before = omega arith;
@@ -79,8 +84,8 @@ module _ (D : Demands) (level from tick : ℕ) (p q : Processor) (end : ℕ) (sp
       }
 
 -- a run goes on by one span: the level ran in it, or it did not
-module _ (p₀ : Processor) (level tick : ℕ) (p q : Processor) (end : ℕ) (span : Span) (so_far : RanOn p₀ level tick p) (ran : Ran p end span q) where
-  goes_on : (stop : ℕ) → ((D : Demands) → Stands D p₀ → Stopped D level p₀.tick q.tick stop) → RanOn p₀ level stop q
+module _ (p₀ : Processor) (level : ℕ) (last : Option ℕ) (p q : Processor) (end : ℕ) (span : Span) (so_far : RanOn p₀ level last p) (ran : Ran p end span q) where
+  goes_on : (stop : Option ℕ) → ((D : Demands) → Stands D p₀ → LastRun D level p₀.tick q.tick stop) → RanOn p₀ level stop q
   goes_on stop stopped =
       let t = ran.tasks in
       let u = so_far.tasks in
@@ -96,20 +101,11 @@ module _ (p₀ : Processor) (level tick : ℕ) (p q : Processor) (end : ℕ) (sp
         stopped = stopped;
       }
 
-  pub ran_here : (stop : ℕ) → stop ≡ q.tick → span.runs ≡ Some level → RanOn p₀ level stop q
+  pub ran_here : (stop : ℕ) → stop ≡ q.tick → span.runs ≡ Some level → RanOn p₀ level (Some stop) q
   ran_here stop at here =
-      goes_on stop (λ D s.
-      subst (Stopped D level p₀.tick q.tick) (sym at) (stopped_here D level p₀.tick tick p q end span ran (so_far.stands D s) so_far.later here))
+      goes_on (Some stop) (λ D s.
+      subst (Stopped D level p₀.tick q.tick) (sym at) (stopped_here D level p₀.tick p q end span ran (so_far.stands D s) so_far.later here))
 
-  pub ran_other : (span.runs ≡ Some level → ⊥) → RanOn p₀ level tick q
+  pub ran_other : (span.runs ≡ Some level → ⊥) → RanOn p₀ level last q
   ran_other other =
-      goes_on tick (λ D s. stopped_before D level p₀.tick tick p q end span ran (so_far.stands D s) other (so_far.stopped D s))
-
--- a test for the level that ran
-pub is_level : (chosen : Option ℕ) (level : ℕ) → true ≡ option_eq (λ a b. a == b) chosen (Some level) → chosen ≡ Some level
-is_level (Some x) level same = let e : x ≡ level = grind (arith, nat_tests, same) in ap Some e
-is_level None level same = absurd (let z : ◌≡◌ {A = ℕ} 0 1 = cc in omega arith)
-
-pub not_level : (chosen : Option ℕ) (level : ℕ) → false ≡ option_eq (λ a b. a == b) chosen (Some level) → chosen ≡ Some level → ⊥
-not_level (Some x) level other e = let same : x ≡ level = cc in grind (arith, nat_tests, other, same)
-not_level None level other e = let z : ◌≡◌ {A = ℕ} 0 1 = cc in omega arith
+      goes_on last (λ D s. stopped_before D level p₀.tick p q end span ran (so_far.stands D s) last other (so_far.stopped D s))

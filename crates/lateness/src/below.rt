@@ -2,10 +2,10 @@
 ghost use Rattle.std.specs.Prelude.{List, MatchBool};
 ghost use Rattle.tasks.specs.declared.figures.Figures.{Figures};
 ghost use Rattle.timeline.specs.Laws.{AllFair, Decides, Overloaded, Independent, LessIsNeverLater, WorstStarts, StartsRelate};
-ghost use Rattle.lateness.specs.Below.{LateBelow, NeverLateBelow, Responds};
+ghost use Rattle.lateness.specs.Below.{LateBelow, NeverLateBelow, Responds, RespondsIn};
 
 use crate::members::Members;
-use crate::running::run_to;
+use crate::running::last_run;
 use tasks::Judged;
 
 // Whether some request of the judged task is late on the endless timeline, below the places above it. The judged place
@@ -18,7 +18,7 @@ pub fn late_below(judged: Judged) -> bool
     ensures less { (tasks : List Figures) → AllFair tasks → LessIsNeverLater tasks }
     ensures worst_starts { (tasks : List Figures) → AllFair tasks → WorstStarts tasks }
 {
-    judged.case.task(judged.place).is_some() && worst_response(judged).is_none()
+    Members::of(judged).is_some_and(|members| response(members).is_none())
 }
 
 // The worst response of the judged task below the places above it; None where it is ever late, or there is no task.
@@ -26,7 +26,13 @@ pub fn worst_response(judged: Judged) -> Option<u32>
     ensures value { Responds judged.entry.case.now judged.entry.place judged.entry.above.now result }
     ensures related { (tasks : List Figures) → AllFair tasks → StartsRelate tasks }
 {
-    let members = Members::of(judged)?;
+    response(Members::of(judged)?)
+}
+
+// The worst response of the judged task of some members; None where it is ever late.
+fn response(members: Members) -> Option<u32>
+    ensures { RespondsIn members.entry result }
+{
     let period = members.common_period();
     if members.load(period) > period {
         return None;
@@ -39,7 +45,8 @@ pub fn worst_response(judged: Judged) -> Option<u32>
     let level = processor.count() - 1;
     let mut worst: u32 = 0;
     for request in (u32::from(timed.start)..until).step_by(usize::from(figures.period)) {
-        let stopped = run_to(&mut processor, level, request + u32::from(figures.deadline));
+        // A request brings work: where its level does not run up to the deadline, it is late.
+        let stopped = last_run(&mut processor, level, request + u32::from(figures.deadline))?;
         if processor.left(level) > 0 {
             return None;
         }

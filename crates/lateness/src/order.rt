@@ -9,7 +9,8 @@ use runner::Processor;
 use tasks::Case;
 
 // Who runs in a tick of the endless timeline, where each of the levels from 1 is that of one place of the case: a
-// place, or none. No answer if the levels are others, or the tick is too late for a processor.
+// place, or none. No answer if the levels are others, or the tick is too late for a processor. Two options, since these
+// are two questions: whether there is an answer, and whether anybody runs.
 pub fn runs_at(case: &Case, levels: &[u8], tick: u32) -> Option<Option<usize>>
     ensures value { RunsIn case.now levels.now tick result }
     ensures repeats { (tasks : List Figures) → AllFair tasks → Repeats tasks }
@@ -19,7 +20,8 @@ pub fn runs_at(case: &Case, levels: &[u8], tick: u32) -> Option<Option<usize>>
     Some(runs.and_then(|level| only_place(levels, level + 1)))
 }
 
-// The tasks of the case on a processor, in the order of their levels.
+// The tasks of the case on a processor, in the order of their levels. A loop of its own: they come level by level, and
+// a level without a place of its own ends it.
 fn ordered(case: &Case, levels: &[u8]) -> Option<Processor>
     ensures { OrderedOn case.now levels.now result }
 {
@@ -31,7 +33,7 @@ fn ordered(case: &Case, levels: &[u8]) -> Option<Processor>
     // The levels are counted: each number from 1 is a level.
     for level in 1..=count {
         let place = only_place(levels, level)?;
-        put(&mut processor, case.task(place)?);
+        put(&mut processor, case.task(place).unwrap());
     }
     Some(processor)
 }
@@ -55,5 +57,5 @@ fn only_place(levels: &[u8], level: usize) -> Option<usize>
     let last = levels
         .iter()
         .rposition(|other| usize::from(*other) == level)?;
-    if first == last { Some(first) } else { None }
+    (first == last).then_some(first)
 }

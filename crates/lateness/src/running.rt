@@ -18,17 +18,18 @@ pub fn put(processor: &mut Processor, timed: TimedTask)
     processor.add(timed.task, u32::from(timed.start)).unwrap();
 }
 
-// Runs up to a tick. Tells the tick at which the level last stopped running; where it did not run, that of the call.
-pub fn run_to(processor: &mut Processor, level: usize, until: u32) -> u32
+// Runs up to a tick. Tells the tick at which the level last stopped running, if it ran. A loop here, since it looks at
+// each span.
+pub fn last_run(processor: &mut Processor, level: usize, until: u32) -> Option<u32>
     requires ahead { processor.old.tick ≤ until }
     requires bounded { until ≤ last_tick }
     ensures tick { processor.new.tick ≡ until }
     ensures ran { RanOn processor.old level result processor.new }
 {
-    let mut stopped = processor.tick();
+    let mut stopped = None;
     while let Some(span) = processor.advance(until) {
         if span.runs == Some(level) {
-            stopped = processor.tick();
+            stopped = Some(processor.tick());
         }
     }
     stopped

@@ -9,38 +9,37 @@ fn timed(work: u16, period: u16, deadline: u16, start: u16) -> Timed {
     }
 }
 
-fn places(some: &[usize]) -> Places {
-    let mut all = Places::none();
-    for place in some {
-        all.add(*place);
-    }
-    all
-}
-
 #[test]
 fn finds_late_requests(rt: HostRuntime) -> Result<(), Fail> {
     // The first late deadline is 9, past the largest start and one common period.
     let case = Case::form(&[timed(2, 3, 2, 2), timed(2, 6, 3, 0)])?;
-    assert!(rt; late_below(case.judged(1, &places(&[0]))));
-    assert_eq!(rt; worst_response(case.judged(1, &places(&[0]))), None);
-    assert!(rt; !late_below(case.judged(1, &places(&[1, 7]))));
-    assert_eq!(rt; worst_response(case.judged(1, &places(&[1, 7]))), Some(2));
-    assert!(rt; !late_below(case.judged(2, &places(&[0, 1]))));
-    assert_eq!(rt; worst_response(case.judged(2, &places(&[0, 1]))), None);
+    let none = Places::none();
+    let first = Places::from_fn(|place| place == 0);
+    let two = Places::from_fn(|place| place < 2);
+    let apart = Places::from_fn(|place| place == 1 || place == 7);
+    assert!(rt; late_below(case.judged(1, &first)));
+    assert_eq!(rt; worst_response(case.judged(1, &first)), None);
+    assert!(rt; !late_below(case.judged(1, &apart)));
+    assert_eq!(rt; worst_response(case.judged(1, &apart)), Some(2));
+    assert!(rt; !late_below(case.judged(2, &two)));
+    assert_eq!(rt; worst_response(case.judged(2, &two)), None);
     let full = Case::form(&[timed(2, 2, 2, 0), timed(1, 3, 3, 0)])?;
-    assert!(rt; late_below(full.judged(1, &places(&[0]))));
-    assert!(rt; !late_below(full.judged(0, &places(&[]))));
+    assert!(rt; late_below(full.judged(1, &first)));
+    assert!(rt; !late_below(full.judged(0, &none)));
     Ok(())
 }
 
 #[test]
 fn finds_worst_responses(rt: HostRuntime) -> Result<(), Fail> {
     let case = Case::form(&[timed(3, 8, 8, 0), timed(6, 12, 12, 0), timed(1, 12, 12, 10)])?;
-    assert_eq!(rt; worst_response(case.judged(0, &places(&[]))), Some(3));
-    assert_eq!(rt; worst_response(case.judged(1, &places(&[0]))), Some(12));
-    assert_eq!(rt; worst_response(case.judged(2, &places(&[0, 1]))), Some(12));
+    let none = Places::none();
+    let first = Places::from_fn(|place| place == 0);
+    let two = Places::from_fn(|place| place < 2);
+    assert_eq!(rt; worst_response(case.judged(0, &none)), Some(3));
+    assert_eq!(rt; worst_response(case.judged(1, &first)), Some(12));
+    assert_eq!(rt; worst_response(case.judged(2, &two)), Some(12));
     let other = Case::form(&[timed(2, 3, 3, 2), timed(2, 9, 9, 0), timed(1, 9, 6, 3)])?;
-    assert_eq!(rt; worst_response(other.judged(2, &places(&[0, 1]))), Some(5));
+    assert_eq!(rt; worst_response(other.judged(2, &two)), Some(5));
     Ok(())
 }
 

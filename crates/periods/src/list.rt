@@ -9,7 +9,8 @@ use short_list::ShortList;
 
 mod calls;
 
-// The listed choices of starts for some periods, by the radix of each place.
+// The listed choices of starts for some periods, by the radix of each place. No call reads the periods: they are what the
+// clauses name, and a struct has no field for specs alone that holds a value.
 #[derive(Clone, Copy)]
 pub struct Choices {
     periods: Periods,

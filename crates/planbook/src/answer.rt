@@ -2,7 +2,7 @@
 use crate::call::Call;
 use crate::failure::Failure;
 use judges::Judge;
-use planner::plan_for;
+use planner::{Assignment, plan_for};
 use std::alloc::{AllocError, Global};
 use std::fmt;
 use tasks::{Figures, Table};
@@ -13,20 +13,20 @@ pub enum Answer {
     Number(u64),
     Ids(Vec<u8>),
     Task(Figures),
-    Plan(Vec<Placed>),
+    Plan(Vec<Planned>),
 }
 
-// The start and the level of a task in a plan.
+// What a plan gives the task with this id.
 #[derive(Clone, Copy)]
-pub struct Placed {
+pub struct Planned {
     id: u8,
-    start: u16,
-    level: u8,
+    given: Assignment,
 }
 
-impl fmt::Display for Placed {
+impl fmt::Display for Planned {
     fn fmt<W: fmt::Write>(&self, f: &mut fmt::Formatter<W>) -> fmt::Result {
-        let Placed { id, start, level } = self;
+        let Planned { id, given } = self;
+        let Assignment { start, level } = given;
         write!(f, "{id}:{start}:{level}")
     }
 }
@@ -105,21 +105,15 @@ impl<J: Judge> Desk<'_, J> {
     }
 
     // A plan of the table, by rising id.
-    fn planned(&self) -> Result<Vec<Placed>, Failure> {
+    fn planned(&self) -> Result<Vec<Planned>, Failure> {
         let plan = plan_for(self.judge, &self.table)?;
-        let placed = self
-            .table
-            .rows()
-            .iter()
-            .enumerate()
-            .filter_map(|(place, row)| {
-                Some(Placed {
-                    id: row.id,
-                    start: plan.start(place)?,
-                    level: plan.level(place)?,
-                })
+        let tasks = self.table.rows().iter().zip(plan.assignments());
+        let planned = tasks
+            .map(|(row, given)| Planned {
+                id: row.id,
+                given: *given,
             })
             .collect(self.heap)?;
-        Ok(placed)
+        Ok(planned)
     }
 }

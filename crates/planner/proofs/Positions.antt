@@ -1,9 +1,8 @@
 -- Positions in a list of places, and what an exchange of two of them leaves.
-use Rattle.std.proofs.Common.{◌≡◌, ℕ, zero, suc, ◌+◌, ◌<◌, ◌≤◌, ◌==◌, ◌&&◌, cond, eqb, ltb, List, [], ◌∷◌, ◌++◌, length, Some, None, sym, refl, ap, ap₂, ◌∙◌, subst, inl, inr, add-one, arith}
+use Rattle.std.proofs.Common.{◌≡◌, ℕ, zero, suc, ◌+◌, ◌<◌, ◌≤◌, ◌==◌, ◌&&◌, cond, eqb, ltb, List, [], ◌∷◌, ◌++◌, length, Some, None, sym, refl, ap, ◌∙◌, subst, inl, inr, arith}
 use Rattle.std.specs.List.{range_with_len, swap}
 use Rattle.std.proofs.lemmas.Bool.{cases_lt, cond_both}
 use Rattle.std.proofs.lemmas.List.Edits.{swapped_from_swap, length-swap}
-use Rattle.std.proofs.lemmas.List.FromFn.{length-range_with_len, get_or-range_with_len}
 use Rattle.std.proofs.lemmas.List.Sums.{position_or_len_is}
 use Rattle.std.proofs.lemmas.Bool.Decides.{nat_tests}
 use Rattle.planner.specs.Positions.{place_in, position_in, exchanged, LeadsBack}
@@ -107,29 +106,14 @@ kept_one_to_one i j at all is holds has = subst Kept (sym is) (elim (cases_lt i 
     Kept ys = LeadsBack (length ys) (place_in ys) (position_in ys) × LeadsBack (length ys) (position_in ys) (place_in ys)
 
 -- the places in their own order
-pub own_more :
-    (n : ℕ) (before after : List ℕ) → before ≡ range_with_len 0 n → after ≡ before ++ n ∷ [] → after ≡ range_with_len 0 (n + 1)
-own_more n before after own pushed =
-    pushed
-    ∙ ap₂ (λ all k. all ++ k ∷ []) own (omega arith)
-    ∙ sym (range_with_len_more 0 n)
-    ∙ ap (range_with_len 0) (sym (add-one n))
-
-module _ (n : ℕ) (at : List ℕ) (own : at ≡ range_with_len 0 n) where
-  pub length_own : length at ≡ n
-  length_own = ap length own ∙ length-range_with_len 0 n
-
-  pub place_own : (k : ℕ) → k < length at → place_in at k ≡ k
-  place_own k below = let is = get_or-range_with_len 0 n k 0 (omega (arith, length_own)) in ap (λ all. place_in all k) own ∙ omega (arith, is)
-
+module _ (at : List ℕ) (own : (k : ℕ) → k < length at → place_in at k ≡ k) where
   position_own : (place : ℕ) → place < length at → position_in at place ≡ place
   position_own place below =
-      position_first at place place below (place_own place below) (λ l before same. omega (arith, place_own l (omega arith), same))
+      position_first at place place below (own place below) (λ l before same. omega (arith, own l (omega arith), same))
 
   pub own_holds : LeadsBack (length at) (place_in at) (position_in at)
-  own_holds k below =
-      let here = place_own k below in (omega (arith, here), ap (position_in at) here ∙ position_own k below)
+  own_holds k below = let here = own k below in (omega (arith, here), ap (position_in at) here ∙ position_own k below)
 
   pub own_has : LeadsBack (length at) (position_in at) (place_in at)
   own_has place below =
-      let here = position_own place below in (omega (arith, here), ap (place_in at) here ∙ place_own place below)
+      let here = position_own place below in (omega (arith, here), ap (place_in at) here ∙ own place below)

@@ -1,22 +1,21 @@
 -- Rows of a table with starts, and the case that they form.
-use Rattle.std.proofs.Common.{◌≡◌, ℕ, zero, suc, ◌<◌, ◌≤◌, List, [], ◌∷◌, ◌++◌, map, length, get_or, Some, None, sym, refl, ap, ◌∙◌, subst, arith}
+use Rattle.std.proofs.Common.{◌≡◌, ℕ, zero, suc, ◌<◌, ◌≤◌, List, [], ◌∷◌, map, length, get_or, None, sym, refl, ap, ◌∙◌, subst, arith}
 use lib.ListN.{length-map}
 use Rattle.std.specs.List.{AllByRecursion as All}
-use Rattle.std.proofs.lemmas.List.{length-append, get_or-map}
+use Rattle.std.proofs.lemmas.List.{get_or-map}
 use Rattle.std.proofs.lemmas.Bool.Decides.{nat_tests}
-use Rattle.refusals.specs.declared.Refusal.{Refusal}
 use Rattle.periods.specs.Listed.{choices_refusal, number_of_choices, choice_of, start_of}
 use Rattle.periods.specs.Lists.{in_places}
 use Rattle.periods.specs.Multiples.{most_tasks, longest_common_period, common_period, Proper}
 use Rattle.periods.proofs.Ranks.{in_places_at, listed_below_period, ranks_list_the_choices}
 use Rattle.tasks.specs.declared.figures.Figures.{Figures}
 use Rattle.tasks.specs.declared.rows.Row.{Row}
-use Rattle.tasks.specs.declared.rows.Timed.{Timed}
 use Rattle.tasks.specs.Figures.{Fair}
 use Rattle.tasks.specs.Loads.{periods_in}
 use Rattle.tasks.specs.Timed.{Sound, figures_given, case_refusal}
 use Rattle.tasks.proofs.Timely.{none_from_sound}
 use Rattle.timeline.specs.Laws.{AllFair}
+use Rattle.short_list.proofs.Collected.{paired}
 use Rattle.planner.specs.Plans.{timed}
 use Rattle.planner.proofs.Fairness.{rows_fair}
 
@@ -29,13 +28,6 @@ periods_at rows = periods_in (figures_at rows)
 pub length-timed : (rows : List Row) (starts : ℕ → ℕ) → length (timed rows starts) ≡ length rows
 length-timed [] starts = refl
 length-timed (row ∷ rows) starts = ap suc (length-timed rows (λ place. starts (suc place)))
-
--- while rows are left to be timed, there is room for one more
-pub room_for_one :
-    (all front : List Timed) (rows : List Row) (starts : List ℕ) → 0 < length rows → length all ≤ most_tasks →
-    front ++ timed rows (start_of starts) ≡ all → length front < most_tasks
-room_for_one all front rows starts some few is =
-    omega (arith, ap length is, length-append front (timed rows (start_of starts)), length-timed rows (start_of starts))
 
 pub timed_figures : (rows : List Row) (starts : ℕ → ℕ) → figures_given (timed rows starts) ≡ figures_at rows
 timed_figures [] starts = refl
@@ -98,9 +90,16 @@ module _
       }
 
   pub choice_forms :
-      (starts : List ℕ) (refusal : Refusal) → starts ≡ in_places (choice_of (periods_at rows) rank) →
-      case_refusal (timed rows (start_of starts)) ≡ Some refusal → ⊥
-  choice_forms starts refusal chosen refused =
+      (starts : List ℕ) → starts ≡ in_places (choice_of (periods_at rows) rank) → case_refusal (timed rows (start_of starts)) ≡ None
+  choice_forms starts chosen =
       let Forms : List ℕ → Type 0 = λ all. Sound (timed rows (start_of all)) in
-      let forms = none_from_sound (timed rows (start_of starts)) (subst Forms (sym chosen) choice_sound) in
-      let never : ◌≡◌ {A = ℕ} 0 1 = cc in omega arith
+      none_from_sound (timed rows (start_of starts)) (subst Forms (sym chosen) choice_sound)
+
+-- rows side by side with starts that are no fewer
+pub timed_pairs :
+    (rows : List Row) (starts : List ℕ) → length rows ≤ length starts →
+    paired (λ row start. record { figures = row.figures; start = start }) rows starts ≡ timed rows (start_of starts)
+timed_pairs [] starts long = refl
+timed_pairs (row ∷ rows) [] long = absurd (omega arith)
+timed_pairs (row ∷ rows) (start ∷ starts) long =
+    ap (λ rest. record { figures = row.figures; start = start } ∷ rest) (timed_pairs rows starts (omega arith))

@@ -1,8 +1,8 @@
 -- The search over the listed choices of starts, against any lawful judge.
-use Rattle.std.proofs.Common.{◌≡◌, ℕ, ◌+◌, ◌<◌, ◌≤◌, ltb, List, [], ◌∷◌, ◌++◌, map, length, get_or, Some, sym, refl, ap, ap₂, ◌∙◌, subst, arith}
+use Rattle.std.proofs.Common.{◌≡◌, ℕ, ◌<◌, ◌≤◌, ltb, List, map, length, get_or, Some, sym, refl, ap, ◌∙◌, subst, arith}
 use lib.ListN.{length-map}
 use Rattle.std.proofs.lemmas.List.{ext_get_or, get_or-map}
-use Rattle.std.proofs.lemmas.List.FromFn.{length-map-range_with_len, get_or-map-range_with_len, map-range_with_len_more}
+use Rattle.std.proofs.lemmas.List.FromFn.{length-map-range_with_len, get_or-map-range_with_len}
 use Rattle.std.proofs.lemmas.Bool.Decides.{nat_tests}
 use Rattle.periods.specs.Listed.{Related, Listed, OneListedChoice, number_of_choices, radices, choice_of, start_of}
 use Rattle.periods.specs.Lists.{in_places, starts_of as starts_of_rank}
@@ -19,7 +19,7 @@ use Rattle.planner.specs.declared.order.Order.{Order}
 use Rattle.planner.specs.declared.plan.Assignment.{Assignment}
 use Rattle.planner.specs.declared.plan.Plan.{Plan}
 use Rattle.planner.specs.Orders.{Levels, Passes, NonePasses, Ordered, places_of, level_of}
-use Rattle.planner.specs.Plans.{Planned, NoPlan, given_in, given_to, given_by, count_of, starts_in, level_at, start_at, timed}
+use Rattle.planner.specs.Plans.{Planned, NoPlan, given_in, given_by, count_of, starts_in, level_at, start_at, timed}
 use Rattle.planner.proofs.Filling.{fewer_above, order_levels}
 use Rattle.planner.proofs.Rows.{figures_at, periods_at, timed_figures, timed_start}
 
@@ -74,15 +74,6 @@ module _ (M : Meaning) (lawful : Lawful M) (tasks : List Figures) (fair : AllFai
       (λ place held.
       lawful.related tasks starts (start_of (choice_of ts ranked.0)) place _ fair (subst To (sym ranked.2) found.2)
       (passes place held))
-
--- what one place more is given
-pub given_more :
-    (starts : List ℕ) (order : Order) (place : ℕ) (before after : List Assignment) (task : Assignment) → before ≡ given_to starts order place →
-    task.start ≡ start_of starts place → task.level ≡ level_of order place → after ≡ before ++ task ∷ [] → after ≡ given_to starts order (place + 1)
-given_more starts order place before after task front start level pushed =
-    pushed
-    ∙ ap₂ (λ all last. all ++ last ∷ []) front (ap₂ (λ start level. record { start = start; level = level }) start level)
-    ∙ sym (map-range_with_len_more _ 0 place place (omega arith))
 
 -- what a plan of these starts with the levels of an order gives
 module _ (starts : List ℕ) (order : Order) (plan : Plan) (given : given_in plan ≡ given_by starts order) where

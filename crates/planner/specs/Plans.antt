@@ -60,10 +60,14 @@ pub record Planned (M : Meaning) (tasks : List Figures) (plan : Plan) : Type 0 w
 abbrev pub NoPlan : Meaning → List Figures → Type 0
 NoPlan M tasks = (starts : ℕ → ℕ) → NonePasses M tasks starts
 
+-- a plan that passes, or none if no order passes with any starts
+abbrev pub PlanIfAny : Meaning → List Figures → Option Plan → Type 0
+PlanIfAny M tasks (Some plan) = Planned M tasks plan
+PlanIfAny M tasks None = NoPlan M tasks
+
 -- a plan, or none if there is none, unless the choices of starts are not listed
 abbrev pub Searched : Meaning → List Figures → Result (Option Plan) Refusal → Type 0
-Searched M tasks (Ok (Some plan)) = (choices_refusal (periods_in tasks) ≡ None) × Planned M tasks plan
-Searched M tasks (Ok None) = (choices_refusal (periods_in tasks) ≡ None) × NoPlan M tasks
+Searched M tasks (Ok found) = (choices_refusal (periods_in tasks) ≡ None) × PlanIfAny M tasks found
 Searched M tasks (Err refusal) = choices_refusal (periods_in tasks) ≡ Some refusal
 
 -- Why there is no plan, in the order in which it is said: the choices of starts are not listed; the load is above the

@@ -12,5 +12,5 @@ mod trial;
 pub use choosing::{plan_for, search};
 pub use levels::order_for;
 pub use order::Order;
-pub use plan::Plan;
+pub use plan::{Assignment, Plan};
 pub use trial::Trial;

@@ -5,10 +5,10 @@ use short_list::ShortList;
 mod calls;
 
 // What a plan gives a task.
-#[derive(Clone, Copy, Default)]
-struct Assignment {
-    start: u16,
-    level: u8,
+#[derive(Clone, Copy, PartialEq, Eq, Debug, Default)]
+pub struct Assignment {
+    pub start: u16,
+    pub level: u8,
 }
 
 // By place.

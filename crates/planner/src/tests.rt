@@ -1,4 +1,4 @@
-use crate::{Order, Plan, Trial, plan_for};
+use crate::{Assignment, Order, Plan, Trial, plan_for, search};
 use judges::{Judge, Tick, WorstStart};
 use refusals::Refusal;
 use std::test::Fail;
@@ -25,13 +25,17 @@ fn positions_past_the_last_stay(rt: HostRuntime) {
     assert_eq!(rt; order.level(7), Some(8));
 }
 
-// The plan of a table of these tasks.
-fn planned<J: Judge>(judge: &J, tasks: &[Figures]) -> Result<Plan, Refusal> {
+// A table of these tasks.
+fn table_of(tasks: &[Figures]) -> Result<Table, Refusal> {
     let mut table = Table::new();
     for (id, figures) in (1..=u8::MAX).zip(tasks) {
         table.enter(id, *figures)?;
     }
-    plan_for(judge, &table)
+    Ok(table)
+}
+
+fn planned<J: Judge>(judge: &J, tasks: &[Figures]) -> Result<Plan, Refusal> {
+    plan_for(judge, &table_of(tasks)?)
 }
 
 fn refused<J: Judge>(judge: &J, tasks: &[Figures]) -> Option<Refusal> {
@@ -42,6 +46,9 @@ fn refused<J: Judge>(judge: &J, tasks: &[Figures]) -> Option<Refusal> {
 fn starts_apart_where_the_common_start_fails(rt: HostRuntime) -> Result<(), Fail> {
     let plan = planned(&Tick, &[Figures::new(1, 2, 1), Figures::new(1, 2, 1)])?;
     assert_eq!(rt; (plan.start(0), plan.start(1)), (Some(0), Some(1)));
+    let given = [(0, 1), (1, 2)].map(|(start, level)| Assignment { start, level });
+    assert_eq!(rt; plan.assignments(), given.as_slice());
+    assert_eq!(rt; (plan.level(0), plan.level(1)), (Some(1), Some(2)));
     let plan = planned(&Tick, &[Figures::new(1, 2, 1), Figures::new(2, 4, 3)])?;
     assert_eq!(rt; (plan.start(0), plan.start(1)), (Some(0), Some(1)));
     assert!(rt;
@@ -80,4 +87,14 @@ fn says_why_there_is_no_plan(rt: HostRuntime) {
     ];
     assert_eq!(rt; refused(&Tick, &three), None);
     assert_eq!(rt; refused(&WorstStart, &three), Some(Refusal::NoPlan));
+}
+
+#[test]
+fn searches_whatever_the_load(rt: HostRuntime) -> Result<(), Fail> {
+    let overloaded = table_of(&[Figures::new(2, 2, 2), Figures::new(1, 3, 3)])?;
+    assert!(rt; search(&Tick, &overloaded)?.is_none());
+    let light = table_of(&[Figures::new(1, 2, 1), Figures::new(1, 2, 1)])?;
+    assert!(rt; search(&Tick, &light)?.is_some());
+    assert_eq!(rt; search(&Tick, &Table::new()).err(), Some(Refusal::NoTask));
+    Ok(())
 }

@@ -1,5 +1,5 @@
 -- How a processor stands on the endless timeline of some demands, and what it does when it advances.
-use Rattle.std.specs.Prelude.{◌≡◌, ℕ, ◌+◌, ◌<◌, ◌≤◌, min, true, cond, ◌⊎◌, Some, None, Option, ◌==◌}
+use Rattle.std.specs.Prelude.{◌≡◌, ℕ, ◌+◌, ◌<◌, ◌≤◌, min, max, true, cond, ◌⊎◌, Some, None, Option, ◌==◌}
 use Rattle.tasks.specs.declared.figures.Figures.{Figures}
 use Rattle.timeline.specs.Processor.{Demands, owing, runs, Idle}
 use Rattle.timeline.specs.Requests.{requested}
@@ -67,6 +67,13 @@ pub record Ran (p : Processor) (end : ℕ) (s : Span) (q : Processor) : Type 0 w
 abbrev pub Advanced : Processor → ℕ → Option Span → Processor → Type 0
 Advanced p until None q = (min until last_tick ≤ p.tick) × (q ≡ p)
 Advanced p until (Some s) q = Ran p (min until last_tick) s q
+
+-- The processor ran up to a tick, or to the last one; where it stood there or beyond, it stays.
+pub record RanTo (p : Processor) (until : ℕ) (q : Processor) : Type 0 where
+  pub tick : q.tick ≡ max p.tick (min until last_tick)
+  pub tasks : SameTasks p q
+  pub stands : (D : Demands) → Stands D p → Stands D q
+  pub stays : min until last_tick ≤ p.tick → q ≡ p
 
 -- Who runs in a tick, as told by a processor on its way to it. There is no answer for a tick that is over or too late.
 abbrev pub ToldAt : Processor → ℕ → Option (Option ℕ) → Type 0

@@ -11,9 +11,6 @@ pub fn runs_at(mut processor: Processor, tick: u32) -> Option<Option<usize>>
     if tick < processor.tick() || tick >= LAST_TICK {
         return None;
     }
-    let mut runs = None;
-    while let Some(span) = processor.advance(tick + 1) {
-        runs = span.runs;
-    }
-    Some(runs)
+    processor.run_to(tick);
+    processor.advance(tick + 1).map(|span| span.runs)
 }

@@ -50,3 +50,16 @@ fn stops_at_the_last_tick(rt: HostRuntime) -> Result<(), Fail> {
     assert_eq!(rt; processor.advance(u32::MAX), None);
     Ok(())
 }
+
+#[test]
+fn runs_up_to_a_tick(rt: HostRuntime) -> Result<(), Fail> {
+    let mut processor = Processor::new();
+    assert_eq!(rt; processor.add(task(3, 8)?, 0), Ok(()));
+    processor.run_to(10);
+    assert_eq!(rt; (processor.tick(), processor.left(0)), (10, 1));
+    processor.run_to(9);
+    assert_eq!(rt; processor.tick(), 10);
+    processor.run_to(u32::MAX);
+    assert_eq!(rt; processor.tick(), LAST_TICK);
+    Ok(())
+}

@@ -1,5 +1,5 @@
 -- Cutting a line into words.
-use Rattle.std.proofs.Common.{◌≡◌, ℕ, ◌<◌, Bool, true, false, not, cond, ◌||◌, eqb, List, [], ◌∷◌, ◌++◌, length, take, Some, None, sym, refl, ap, ◌∙◌, append_assoc, arith}
+use Rattle.std.proofs.Common.{◌≡◌, ℕ, ◌<◌, Bool, true, false, not, cond, ◌||◌, eqb, List, [], ◌∷◌, ◌++◌, length, take, unwrap_or, sym, refl, ap, ◌∙◌, append_assoc, arith}
 use Rattle.std.specs.List.{AllByRecursion as All, position, slice_split, onto_first, filter, take_while}
 use Rattle.std.proofs.lemmas.List.{append-nil}
 use Rattle.std.proofs.lemmas.List.Splits.{length-slice_split}
@@ -26,11 +26,9 @@ front_is (b ∷ text) =
     ∙ cond-not (hash b) (b ∷ take_while (λ x. not (hash x)) text) []
     ∙ sym (take_while-cons (λ x. not (hash x)) b text)
 
-pub comment_at : (text : List ℕ) (i : ℕ) → Some i ≡ position hash text → take i text ≡ before_comment text
-comment_at text i e = let is = front_is text in grind (arith, nat_tests, common_steps)
-
-pub comment_none : (text : List ℕ) → None ≡ position hash text → before_comment text ≡ text
-comment_none text e = let is = front_is text in grind (arith, nat_tests, common_steps)
+-- it ends at the first #, or with the text
+pub comment_end : (text : List ℕ) → take (unwrap_or (position hash text) (length text)) text ≡ before_comment text
+comment_end text = let is = front_is text in grind (arith, nat_tests, common_steps)
 
 -- a text that is not empty
 abbrev pub some : List ℕ → Bool

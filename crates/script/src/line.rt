@@ -30,10 +30,7 @@ fn hash(text: &[u8]) -> Option<usize>
 fn before_comment(text: &[u8]) -> &[u8]
     ensures { result.now ≡ before_comment text.now }
 {
-    match hash(text) {
-        Some(comment) => &text[..comment],
-        None => text,
-    }
+    &text[..hash(text).unwrap_or(text.len())]
 }
 
 // Words are parted by spaces and tabs.

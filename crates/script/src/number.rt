@@ -19,7 +19,7 @@ pub fn number_up_to(limit: u32, word: &[u8]) -> Option<u32>
     if !are_digits(word) {
         return None;
     }
-    let digits = str::from_utf8(word).ok()?;
+    let digits = str::from_utf8(word).unwrap();
     u32::from_str_radix(digits, 10)
         .ok()
         .filter(|value| *value <= limit)

@@ -1,17 +1,17 @@
 -- The search for the first wrong entry, and what it says where there is none.
-use Rattle.std.proofs.Common.{◌≡◌, ℕ, ◌+◌, ◌≤◌, ltb, List, [], ◌∷◌, ◌++◌, map, length, Some, None, Ok, Err, Option, Result, refl, ap, ◌∙◌, arith}
+use Rattle.std.proofs.Common.{◌≡◌, ℕ, ◌+◌, ◌≤◌, ◌||◌, eqb, ltb, List, [], ◌∷◌, ◌++◌, map, length, Some, None, Ok, Err, Option, Result, refl, ap, ◌∙◌, arith}
 use lib.ListN.{length-map}
 use Rattle.std.specs.Option.{option_map, option_or}
 use Rattle.std.specs.Result.{result_err}
 use Rattle.std.specs.Bool.{then_some}
-use Rattle.std.specs.List.{AllByRecursion as All}
+use Rattle.std.specs.List.{AllByRecursion as All, list_any}
 use Rattle.std.proofs.lemmas.Bool.Decides.{nat_tests}
 use Rattle.refusals.specs.Answers.{answer}
 use Rattle.refusals.specs.declared.Refusal.{Refusal}
 use Rattle.periods.specs.Multiples.{longest_common_period, common_period, period_refusal}
 use Rattle.tasks.specs.Loads.{periods_in}
 use Rattle.tasks.specs.Timed.{figures_given}
-use Rattle.sheets.specs.Checks.{timed_in, first_wrong, period_fault}
+use Rattle.sheets.specs.Checks.{timed_in, levels_in, is_in, first_wrong, period_fault}
 use Rattle.sheets.specs.declared.fault.EntryFault.{EntryFault}
 use Rattle.sheets.specs.declared.fault.SheetFault.TheVariants.{LongCommonPeriod}
 use Rattle.sheets.specs.declared.fault.WrongEntry.{WrongEntry}
@@ -56,6 +56,11 @@ module _ (check : List SheetRow → SheetRow → Option EntryFault) where
     none_from_all says earlier [] all = refl
     none_from_all says earlier (row ∷ rows) all =
         none_from_parts earlier row rows (says earlier row all.0) (none_from_all says (earlier ++ row ∷ []) rows all.1)
+
+-- a level that a row has is in the levels of the rows
+pub level_is_in : (level : ℕ) (rows : List SheetRow) → is_in level (levels_in rows) ≡ list_any (λ row. eqb level row.level) rows
+level_is_in level [] = refl
+level_is_in level (row ∷ rows) = ap (λ found. eqb level row.level || found) (level_is_in level rows)
 
 -- the common period
 pub figures_timed : (rows : List SheetRow) → figures_given (timed_in rows) ≡ map (λ row. row.figures) rows

@@ -25,9 +25,6 @@ timely_all [] all = tt
 timely_all (row ∷ rows) all = (all.0, timely_all rows all.1)
 
 module _ (rows : List SheetRow) (sound : Sound rows) where
-  pub some_rows : 1 ≤ length rows
-  some_rows = omega (arith, timed-length rows, sound.case.some)
-
   pub few_rows : length rows ≤ most_tasks
   few_rows = omega (arith, timed-length rows, sound.case.few)
 

@@ -156,11 +156,18 @@ all_unmap P f [] all = tt
 all_unmap P f (x ∷ xs) all = (all.0, all_unmap P f xs all.1)
 
 -- nothing is wrong only where each part finds nothing
-pub count_right : (count : ℕ) → count_fault count ≡ None → (1 ≤ count) × (count ≤ most_tasks)
+count_right : (count : ℕ) → count_fault count ≡ None → (1 ≤ count) × (count ≤ most_tasks)
 count_right count none = (grind (arith, nat_tests), grind (arith, nat_tests))
 
 right_count : (count : ℕ) → 1 ≤ count → count ≤ most_tasks → count_fault count ≡ None
 right_count count some few = grind (arith, nat_tests)
+
+-- a number of rows that is tested not to be 0
+pub some_counted : (count : ℕ) → false ≡ eqb count 0 → 1 ≤ count
+some_counted count test = grind (arith, nat_tests)
+
+pub few_counted : (count : ℕ) → false ≡ eqb count 0 → count ≤ most_tasks → None ≡ count_fault count
+few_counted count test few = sym (right_count count (some_counted count test) few)
 
 pub entry_parts :
     (ids figures starts levels : Option WrongEntry) → option_or ids (option_or figures (option_or starts levels)) ≡ None →
@@ -180,10 +187,6 @@ right_short ticks short = grind (arith, nat_tests)
 
 -- which fault is said: that of the number of rows, else that of an entry, else that of the common period
 module _ (rows : List SheetRow) where
-  pub count_said : (fault : SheetFault) → Some fault ≡ count_fault (length rows) → Some fault ≡ rows_fault rows
-  unfolding rows_fault
-  count_said fault is = ap (λ found. option_or found (option_or (option_map Entry (entries_fault rows)) (period_fault rows))) is
-
   pub entry_said :
       (wrong : WrongEntry) → None ≡ count_fault (length rows) → Some wrong ≡ entries_fault rows → Some (Entry wrong) ≡ rows_fault rows
   unfolding rows_fault
@@ -238,12 +241,17 @@ none_from_sound rows sound =
       right_short _ case.short,
     )
 
--- more rows than a sheet holds
-pub many_said : (rows : List SheetRow) → most_tasks < length rows → rows_fault rows ≡ Some WrongCount
-unfolding rows_fault
-many_said rows many =
-    let count : count_fault (length rows) ≡ Some WrongCount = grind (arith, nat_tests) in
-    ap (λ found. option_or found (option_or (option_map Entry (entries_fault rows)) (period_fault rows))) count
+-- no row, and more rows than a sheet holds
+module _ (rows : List SheetRow) where
+  count_said : count_fault (length rows) ≡ Some WrongCount → rows_fault rows ≡ Some WrongCount
+  unfolding rows_fault
+  count_said is = ap (λ found. option_or found (option_or (option_map Entry (entries_fault rows)) (period_fault rows))) is
+
+  pub none_said : true ≡ eqb (length rows) 0 → Some WrongCount ≡ rows_fault rows
+  none_said none = sym (count_said (grind (arith, nat_tests)))
+
+  pub many_said : most_tasks < length rows → rows_fault rows ≡ Some WrongCount
+  many_said many = count_said (grind (arith, nat_tests))
 
 pub sound_from_test : (rows : List SheetRow) → is_some (rows_fault rows) ≡ false → Sound rows
 sound_from_test rows test = sound_from_none rows (grind arith)

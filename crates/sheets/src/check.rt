@@ -1,11 +1,14 @@
 // The checks that the rows of a sheet have to pass.
-ghost use Rattle.std.specs.Prelude.{◌≡◌, List, [], Option};
+ghost use Rattle.std.specs.Prelude.{◌≡◌, ◌==◌, List, [], Option};
 ghost use Rattle.std.specs.Result.{result_err};
-ghost use Rattle.sheets.specs.Checks.{last_id, is_in, levels_in, id_fault, figures_fault, start_fault, level_fault, Checks, first_wrong, entries_fault, count_fault, rows_fault};
+ghost use Rattle.std.specs.List.{list_any};
+ghost use Rattle.short_list.specs.Items.{items_of};
+ghost use Rattle.sheets.specs.Checks.{last_id, id_fault, figures_fault, start_fault, level_fault, Checks, first_wrong, entries_fault, rows_fault};
 
 use crate::fault::{EntryFault, SheetFault, WrongEntry};
 use crate::row::SheetRow;
 use periods::MOST_TASKS;
+use short_list::ShortList;
 use tasks::{Task, periods_of};
 
 // An id above those of the entries before it.
@@ -35,6 +38,7 @@ fn check_start(row: SheetRow) -> Result<(), EntryFault>
 }
 
 // A level from 1 to the number of entries, and none of those before it.
+#[tactic(auto, using(crate::proofs::Entries::level_is_in))]
 fn check_level(count: usize, earlier: &[SheetRow], row: SheetRow) -> Result<(), EntryFault>
     ensures { result_err result ≡ level_fault count earlier.now row }
 {
@@ -69,30 +73,24 @@ fn last_id(rows: &[SheetRow]) -> u8
 }
 
 fn is_taken(level: u8, rows: &[SheetRow]) -> bool
-    ensures { result ≡ is_in level (levels_in rows.now) }
+    ensures { result ≡ list_any (λ row. level == row.level) rows.now }
 {
-    rows.iter().map(|row| row.level).any(|other| level == other)
+    rows.iter().any(|row| level == row.level)
 }
 
-// Why these rows make no sheet, if they do not.
-pub(crate) fn check_rows(rows: &[SheetRow]) -> Result<(), SheetFault>
-    ensures { result_err result ≡ rows_fault rows.now }
+// Why these rows make no sheet, if they do not. There are never too many: the list holds as many as a sheet.
+pub(crate) fn check_rows(rows: &ShortList<SheetRow, MOST_TASKS>) -> Result<(), SheetFault>
+    ensures { result_err result ≡ rows_fault (items_of rows.now) }
 {
-    check_count(rows.len())?;
+    let rows = rows.as_slice();
+    if rows.is_empty() {
+        return Err(SheetFault::WrongCount);
+    }
     check_entries(rows)?;
     periods_of(rows)
         .unwrap()
         .common_period()
         .map_err(|_| SheetFault::LongCommonPeriod)?;
-    Ok(())
-}
-
-pub(crate) fn check_count(count: usize) -> Result<(), SheetFault>
-    ensures { result_err result ≡ count_fault count }
-{
-    if count == 0 || count > MOST_TASKS {
-        return Err(SheetFault::WrongCount);
-    }
     Ok(())
 }
 

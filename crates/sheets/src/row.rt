@@ -12,6 +12,22 @@ pub struct SheetRow {
     pub level: u8,
 }
 
+impl SheetRow {
+    pub fn new(id: u8, figures: Figures, start: u16, level: u8) -> SheetRow
+        ensures id { result.id ≡ id }
+        ensures figures { result.figures ≡ figures }
+        ensures start { result.start ≡ start }
+        ensures level { result.level ≡ level }
+    {
+        SheetRow {
+            id,
+            figures,
+            start,
+            level,
+        }
+    }
+}
+
 impl HasFigures for SheetRow {
     ghost has = { λ row. row.figures };
 

@@ -12,22 +12,13 @@ const EXAMPLE: [u8; 34] = [
     2, 0, 10, 3,
 ];
 
-fn row(id: u8, work: u16, period: u16, start: u16, level: u8) -> SheetRow {
-    SheetRow {
-        id,
-        figures: Figures::new(work, period, period),
-        start,
-        level,
-    }
-}
-
 fn example() -> Result<Sheet, SheetFault>
     ensures { encoded example_rows ≡ example_bytes }
 {
     Sheet::form(&[
-        row(1, 3, 8, 0, 1),
-        row(2, 6, 12, 0, 2),
-        row(3, 1, 12, 10, 3),
+        SheetRow::new(1, Figures::new(3, 8, 8), 0, 1),
+        SheetRow::new(2, Figures::new(6, 12, 12), 0, 2),
+        SheetRow::new(3, Figures::new(1, 12, 12), 10, 3),
     ])
 }
 
@@ -63,13 +54,19 @@ fn reads_the_example(rt: HostRuntime) -> Result<(), Fail> {
 
 #[test]
 fn tells_the_first_wrong_entry(rt: HostRuntime) -> Result<(), Fail> {
-    let unfair = Sheet::form(&[row(1, 1, 2_001, 0, 1), row(2, 0, 5, 0, 2)]);
+    let unfair = Sheet::form(&[
+        SheetRow::new(1, Figures::new(1, 2_001, 2_001), 0, 1),
+        SheetRow::new(2, Figures::new(0, 5, 5), 0, 2),
+    ]);
     let fault = unfair.err().ok_or("formed")?;
     assert_eq!(rt; fault.number(), 44);
     assert_eq!(rt; fault.layer(), Layer::Entries);
     assert_eq!(rt; fault.place(), 1);
     assert_eq!(rt; fault.cause(), Some(TaskFault::LongPeriod));
-    let twice = Sheet::form(&[row(1, 1, 5, 0, 1), row(2, 1, 5, 0, 1)]);
+    let twice = Sheet::form(&[
+        SheetRow::new(1, Figures::new(1, 5, 5), 0, 1),
+        SheetRow::new(2, Figures::new(1, 5, 5), 0, 1),
+    ]);
     assert_eq!(rt;
         twice.err(),
         Some(SheetFault::Entry(WrongEntry {

@@ -1,3 +1,4 @@
 mod Shifts
 mod Changes
 pub mod Swaps
+pub mod Collected

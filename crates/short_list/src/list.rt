@@ -3,7 +3,7 @@ ghost use Rattle.std.specs.Prelude.{◌≡◌, ◌≤◌, length};
 mod calls;
 mod shifts;
 
-// At most N items: the first `len` slots. What the others hold is nobody's.
+// At most N items: the first `len` slots. What the others hold is nobody's. The kit's `ArrayVec` is not `Copy`.
 #[derive(Copy)]
 pub struct ShortList<T: Copy, const N: usize> {
     slots: [T; N],

@@ -43,3 +43,12 @@ fn exchanges_two_items_that_are_there(rt: HostRuntime) -> Result<(), Full> {
     assert_eq!(rt; list.as_slice(), [7, 9, 4].as_slice());
     Ok(())
 }
+
+#[test]
+fn takes_the_items_of_an_iterator(rt: HostRuntime) -> Result<(), Full> {
+    let list = ShortList::<usize, 3>::from_iter((0..6).step_by(2))?;
+    assert_eq!(rt; list.as_slice(), [0, 2, 4].as_slice());
+    let long = ShortList::<usize, 3>::from_iter(0..4);
+    assert_eq!(rt; long.err(), Some(Full));
+    Ok(())
+}

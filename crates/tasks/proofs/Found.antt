@@ -1,18 +1,18 @@
 -- An id that stands at an index, or that belongs there.
-use Rattle.std.proofs.Common.{◌≡◌, ℕ, suc, ◌+◌, ◌<◌, ◌≤◌, true, false, List, [], ◌∷◌, ◌++◌, get_or, take, drop, set, is_some, Some, None, Ok, Err, MatchResult, OnOk, OnErr, Result, sym, refl, ap, ◌∙◌, arith, drop-cons}
+use Rattle.std.proofs.Common.{◌≡◌, ℕ, suc, ◌+◌, ◌<◌, ◌≤◌, ◌==◌, true, false, List, [], ◌∷◌, ◌++◌, get_or, take, drop, set, is_some, Some, None, Ok, Err, MatchResult, OnOk, OnErr, Result, sym, refl, ap, ◌∙◌, arith, drop-cons}
 use Rattle.std.specs.List.{insert, remove, AllByRecursion as All}
 use Rattle.std.proofs.lemmas.List.{take-append-drop, set_split, length-take-le}
 use Rattle.std.proofs.lemmas.Bool.Decides.{nat_tests}
 use Rattle.std.specs.Result.{IsErrAnd}
-use Rattle.refusals.specs.Answers.{AnswersWith}
+use Rattle.refusals.specs.Answers.{AnswersWith, refuse_if}
 use Rattle.refusals.specs.declared.Refusal.{Refusal}
-use Rattle.refusals.specs.declared.Refusal.TheVariants.{StandingId, UnknownId}
+use Rattle.refusals.specs.declared.Refusal.TheVariants.{ZeroId, StandingId, UnknownId}
 use Rattle.short_list.specs.Items.{items_of}
 use Rattle.short_list.specs.declared.list.ShortList.{ShortList}
 use Rattle.tasks.specs.declared.rows.Row.{Row}
 use Rattle.tasks.specs.Figures.{is_fair}
 use Rattle.tasks.specs.Rows.{tidy, figures_of, stands, place_of, entered, amended, struck, standing_refusal, unknown_refusal}
-use Rattle.tasks.specs.Seeking.{StandsAt, BelongsAt}
+use Rattle.tasks.specs.Seeking.{StandsAt, BelongsAt, Sought}
 use Rattle.tasks.proofs.Changes.{tidy-entered, none_below, figures_of_past, place_of_past, struck_past, entered_past, amended_past}
 
 -- what an index past the end reads
@@ -31,11 +31,11 @@ module _ (id : ℕ) (rows : List Row) (at : ℕ) (found : StandsAt id rows at) w
   pub stands_here : stands id rows ≡ true
   stands_here = ap is_some figures_of_here
 
-  pub known : (id ≡ 0 → ⊥) → unknown_refusal id rows ≡ None
-  known nonzero = let here = figures_of_here in grind (arith, nat_tests)
+  pub known : refuse_if (id == 0) ZeroId ≡ None → unknown_refusal id rows ≡ None
+  known nonzero = rw (nonzero, stands_here) refl
 
-  pub standing : (id ≡ 0 → ⊥) → standing_refusal id rows ≡ Some StandingId
-  standing nonzero = let here = figures_of_here in grind (arith, nat_tests)
+  pub standing : refuse_if (id == 0) ZeroId ≡ None → standing_refusal id rows ≡ Some StandingId
+  standing nonzero = rw (nonzero, stands_here) refl
 
   pub place_of_here : place_of id rows ≡ at + 1
   place_of_here =
@@ -70,11 +70,11 @@ module _ (id : ℕ) (rows : List Row) (at : ℕ) (gap : BelongsAt id rows at) wh
   pub stands_not : stands id rows ≡ false
   stands_not = ap is_some figures_of_absent
 
-  pub unknown : (id ≡ 0 → ⊥) → unknown_refusal id rows ≡ Some UnknownId
-  unknown nonzero = let absent = figures_of_absent in grind (arith, nat_tests)
+  pub unknown : refuse_if (id == 0) ZeroId ≡ None → unknown_refusal id rows ≡ Some UnknownId
+  unknown nonzero = rw (nonzero, stands_not) refl
 
-  pub free : (id ≡ 0 → ⊥) → standing_refusal id rows ≡ None
-  free nonzero = let absent = figures_of_absent in grind (arith, nat_tests)
+  pub free : refuse_if (id == 0) ZeroId ≡ None → standing_refusal id rows ≡ None
+  free nonzero = rw (nonzero, stands_not) refl
 
   pub entered_here : (new : Row) → new.id ≡ id → entered new rows ≡ insert rows at new
   entered_here new is =
@@ -84,8 +84,8 @@ module _ (id : ℕ) (rows : List Row) (at : ℕ) (gap : BelongsAt id rows at) wh
 
 -- the answer of a search, with an id that does not stand refused
 pub known_or_unknown :
-    (id : ℕ) (rows : List Row) {Q : ℕ → Refusal → Type 0} (r : Result ℕ ℕ) (s : Result ℕ Refusal) → (id ≡ 0 → ⊥) →
-    MatchResult r (StandsAt id rows) (BelongsAt id rows) → MatchResult r (λ at. s ≡ Ok at) (λ at. IsErrAnd s (Q at)) →
+    (id : ℕ) (rows : List Row) {Q : ℕ → Refusal → Type 0} (r : Result ℕ ℕ) (s : Result ℕ Refusal) →
+    refuse_if (id == 0) ZeroId ≡ None → Sought id rows r → MatchResult r (λ at. s ≡ Ok at) (λ at. IsErrAnd s (Q at)) →
     ((at : ℕ) (why : Refusal) → Q at why → why ≡ UnknownId) → AnswersWith (unknown_refusal id rows) (StandsAt id rows) s
 known_or_unknown id rows (Ok at) s nonzero found same why = rw same (known id rows at found nonzero, found)
 known_or_unknown id rows (Err at) (Ok n) nonzero gap said why = absurd said

@@ -7,3 +7,4 @@ pub mod Ordered
 pub mod Placed
 pub mod Sought
 pub mod Timely
+pub mod Picked

@@ -1,19 +1,15 @@
 -- Periods and load of rows, gathered row by row.
-use Rattle.std.proofs.Common.{◌≡◌, ℕ, ◌*◌, ◌/◌, ◌<◌, ◌≤◌, List, map, length, None, Ok, refl, le_trans, mul-le-mul_right, arith}
+use Rattle.std.proofs.Common.{◌≡◌, ℕ, ◌*◌, ◌/◌, ◌≤◌, List, map, length, None, Ok, refl, le_trans, mul-le-mul_right, arith}
 use native.Mathlib.Nat.{mul-div-le}
 use Rattle.std.specs.List.{AllByRecursion as All, sum_by}
 use Rattle.std.proofs.ByRecursion.{All-weaker, sum_by_le}
 use Rattle.std.proofs.lemmas.List.Recursion.{is_sum_by}
 use Rattle.std.proofs.lemmas.Bool.Decides.{nat_tests}
 use Rattle.refusals.specs.Answers.{answer}
-use Rattle.periods.specs.Multiples.{most_tasks, longest_common_period, common_period, period_refusal}
-use Rattle.periods.specs.Rows.{not_taken}
+use Rattle.periods.specs.Multiples.{longest_common_period, common_period, period_refusal}
 use Rattle.tasks.specs.declared.figures.Figures.{Figures}
 use Rattle.tasks.specs.Figures.{Fair}
 use Rattle.tasks.specs.Loads.{load_in}
-
-pub fair_taken : (ts : List ℕ) (f : Figures) → Fair f → length ts < most_tasks → not_taken ts f.period ≡ None
-fair_taken ts f fair room = grind (arith, nat_tests)
 
 -- work within the period fills no more than the ticks
 pub work_fits : (f : Figures) (ticks : ℕ) → Fair f → f.work * (ticks / f.period) ≤ ticks

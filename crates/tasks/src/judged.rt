@@ -1,5 +1,6 @@
 // A task to be judged below others.
-ghost use Rattle.std.specs.Prelude.{◌≡◌};
+ghost use Rattle.std.specs.Prelude.{◌≡◌, not, ◌&&◌, ◌||◌, ◌==◌};
+ghost use Rattle.tasks.specs.Places.{has};
 
 use crate::case::Case;
 use crate::places::Places;
@@ -11,6 +12,22 @@ pub struct Judged<'a> {
     pub case: &'a Case,
     pub place: usize,
     pub above: &'a Places,
+}
+
+impl Judged<'_> {
+    // Whether a place counts as above the judged one.
+    pub fn is_above(&self, place: usize) -> bool
+        ensures { result ≡ (not (place == self.now.place) && has self.now.above.now place) }
+    {
+        place != self.place && self.above.contains(place)
+    }
+
+    // Whether a place is the judged one, or counts as above it.
+    pub fn is_member(&self, place: usize) -> bool
+        ensures { result ≡ (place == self.now.place || has self.now.above.now place) }
+    {
+        place == self.place || self.above.contains(place)
+    }
 }
 
 impl Case {

@@ -5,14 +5,15 @@ ghost use Rattle.tasks.specs.Figures.{Fair, first_fault};
 use crate::figures::Figures;
 use refusals::TaskFault;
 
-// A task whose figures are fair, whoever formed it.
+// A task whose figures are fair, whoever formed it. Of bare figures only those clauses say it that show the figures of rows,
+// or make a task of figures.
 #[derive(Clone, Copy)]
 pub struct Task {
     figures: Figures,
     ghost fair: { Fair figures },
 }
 
-// A task whose first request falls at its start.
+// A task whose first request falls at its start. Beside `Timed`, which holds figures as a caller gives them, fair or not.
 #[derive(Clone, Copy)]
 pub struct TimedTask {
     pub task: Task,

@@ -1,4 +1,4 @@
-use crate::{Case, Figures, Table, Task, Timed, periods_of};
+use crate::{Case, Figures, Places, Table, Task, Timed, periods_of};
 use periods::NotTaken;
 use refusals::{Refusal, TaskFault};
 use std::test::Fail;
@@ -126,4 +126,16 @@ fn forms_cases(rt: HostRuntime) {
         Case::form(&faulty).err(),
         Some(Refusal::Figures(TaskFault::NoWork))
     );
+}
+
+#[test]
+fn picks_places_by_a_test(rt: HostRuntime) {
+    let last = Places::from_fn(|place| place > 6);
+    assert!(rt; last.contains(7));
+    assert!(rt; !last.contains(6));
+    assert!(rt; !last.contains(8));
+    let mut first = Places::none();
+    first.add(0);
+    assert!(rt; first.contains(0));
+    assert!(rt; !first.contains(1));
 }

@@ -1,14 +1,13 @@
 -- The worked plan, computed.
-use Rattle.std.proofs.Common.{◌≡◌, ℕ, zero, suc, ◌<◌, true, [], ◌∷◌, length, None, refl, arith}
+use Rattle.std.proofs.Common.{◌≡◌, ℕ, zero, suc, ◌<◌, true, length, None, refl, arith}
 use Rattle.periods.specs.Divisors.{gcd, euclid}
 use Rattle.periods.specs.Multiples.{lcm}
 use Rattle.tasks.specs.Figures.{first_fault}
 use Rattle.timeline.specs.Timeline.{NeverLate}
 use Rattle.sheets.specs.Checks.{rows_fault}
-use Rattle.sheets.specs.declared.row.SheetRow.{SheetRow}
 use Rattle.charts.specs.Plans.{tasks_of, start_of, level_of}
 use Rattle.charts.specs.Charts.{shown}
-use Rattle.worked.specs.Plan.{planned_row, planned_rows, planned_bars, Responds, WorkedPlan}
+use Rattle.worked.specs.Plan.{planned_rows, planned_bars, Responds, WorkedPlan}
 use Rattle.worked.proofs.Responses.{is_worst, never_late, worst_response}
 use Rattle.worked.proofs.Charted.{shown_at, shown_is, is_chart}
 
@@ -36,11 +35,6 @@ worked_plan =
       chart = is_chart (shown planned_rows) (shown_at planned_rows) (shown_is planned_rows) 0 24 planned_bars refl;
       bytes = refl;
     }
-
--- rows one by one
-pub the_rows :
-    (a b c : SheetRow) → a ≡ planned_row 1 3 8 0 → b ≡ planned_row 2 6 12 0 → c ≡ planned_row 3 1 12 10 → (a ∷ b ∷ c ∷ []) ≡ planned_rows
-the_rows a b c first second third = cc
 
 -- the rows are without fault
 pub sound : rows_fault planned_rows ≡ None

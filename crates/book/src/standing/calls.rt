@@ -23,18 +23,16 @@ impl StandingPlan {
         requires whole { count_of plan.now ≡ length (table_rows table.now) }
         ensures { rows_of result.sheet ≡ with_plan (table_rows table.now) (start_at plan.now) (level_at plan.now) }
     {
-        let mut rows = ShortList::<SheetRow, MOST_TASKS>::new();
-        for (place, row) in table.rows().iter().enumerate() {
-            let planned = SheetRow {
-                id: row.id,
-                figures: row.figures,
-                start: plan.start(place).unwrap(),
-                level: plan.level(place).unwrap(),
-            };
-            rows.push(planned).unwrap();
-        }
+        let planned = table.rows().iter().zip(plan.assignments());
+        let rows = planned.map(|(row, given)| SheetRow::new(
+            row.id,
+            row.figures,
+            given.start,
+            given.level,
+        ));
+        let rows = ShortList::<SheetRow, MOST_TASKS>::from_iter(rows).unwrap();
         StandingPlan {
-            sheet: Sheet::form(rows.as_slice()).unwrap(),
+            sheet: Sheet::form(&rows).unwrap(),
         }
     }
 
@@ -50,7 +48,7 @@ impl StandingPlan {
     {
         let mut table = Table::new();
         for row in self.sheet.rows() {
-            let _ = table.enter(row.id, row.figures);
+            table.enter(row.id, row.figures).unwrap();
         }
         table
     }
@@ -59,14 +57,10 @@ impl StandingPlan {
     pub(crate) fn case(&self) -> Case
         ensures { timed_of result ≡ timed_in (rows_of self.now.sheet) }
     {
-        let mut rows = ShortList::<Timed, MOST_TASKS>::new();
-        for row in self.sheet.rows() {
-            let timed = Timed {
-                figures: row.figures,
-                start: row.start,
-            };
-            rows.push(timed).unwrap();
-        }
-        Case::form(rows.as_slice()).unwrap()
+        let timed = self.sheet.rows().iter().map(|row| Timed {
+            figures: row.figures,
+            start: row.start,
+        });
+        Case::form(&ShortList::<Timed, MOST_TASKS>::from_iter(timed).unwrap()).unwrap()
     }
 }

@@ -2,16 +2,15 @@
 ghost use Rattle.std.specs.Prelude.{◌≡◌, ◌-◌, ◌≤◌};
 ghost use Rattle.std.specs.Iterator.{at_most};
 ghost use Rattle.runner.specs.Levels.{last_tick};
-ghost use Rattle.sheets.specs.Sheets.{rows_of};
 ghost use Rattle.charts.specs.Few.{bars_few};
 ghost use Rattle.charts.specs.Walks.{Gives};
-ghost use Rattle.charts.specs.Windows.{ChartAhead, NextRun, MoreOf, id_for, LevelKnown};
+ghost use Rattle.charts.specs.Windows.{ChartAhead, NextRun, MoreOf};
 
-use crate::bars::{Bars, Run};
-use crate::plan::{processor_of, row_on};
+use crate::bars::Bars;
+use crate::running::{Run, Running};
 use crate::walk::Walk;
 use entries::Bar;
-use sheets::{Sheet, SheetRow};
+use sheets::Sheet;
 use std::ops::Range;
 
 impl<'s> Bars<'s> {
@@ -19,15 +18,14 @@ impl<'s> Bars<'s> {
     pub fn over(sheet: &'s Sheet, window: Range<u32>) -> Bars<'s>
         requires order { window.start ≤ window.end }
         requires near { window.end ≤ last_tick }
-        ensures sheet { result.sheet.now ≡ sheet.now }
-        ensures from { result.processor.tick ≡ window.start }
+        ensures sheet { result.running.sheet.now ≡ sheet.now }
+        ensures from { result.running.processor.tick ≡ window.start }
         ensures to { result.to ≡ window.end }
     {
-        let mut processor = processor_of(sheet);
-        while let Some(_) = processor.advance(window.start) {}
+        let mut running = Running::of(sheet);
+        running.run_to(window.start);
         Bars {
-            sheet,
-            processor,
+            running,
             to: window.end,
         }
     }
@@ -36,34 +34,19 @@ impl<'s> Bars<'s> {
     fn next_run(&mut self) -> Option<Run>
         ensures { NextRun self.old result self.new }
     {
-        let span = self.processor.advance(self.to)?;
-        Some(Run {
-            id: id_for(self.sheet.rows(), span.runs),
-            length: span.length,
-        })
+        self.running.advance(self.to)
     }
 
-    // How many of the next ticks show this id, if any; else the walk stays.
+    // How many of the next ticks show this id, if any; else the walk stays. A copy looks ahead: `Peekable` is not `Copy`,
+    // and a list is filled from a copy of the walk.
     fn more_of(&mut self, id: u8) -> Option<u32>
         ensures { MoreOf self.old id result self.new }
     {
         let mut ahead = *self;
-        let run = ahead.next_run()?;
-        if run.id != id {
-            return None;
-        }
+        let run = ahead.next_run().filter(|run| run.id == id)?;
         *self = ahead;
         Some(run.length)
     }
-}
-
-// The id of the row on the level that runs, and 0 where none does.
-fn id_for(rows: &[SheetRow], runs: Option<usize>) -> u8
-    requires { LevelKnown runs }
-    ensures { result ≡ id_for rows.now runs }
-{
-    runs.and_then(|level| row_on(rows, level))
-        .map_or(0, |row| row.id)
 }
 
 impl Iterator for Bars<'_> {
@@ -71,10 +54,10 @@ impl Iterator for Bars<'_> {
 
     ghost next_gives = { Gives ChartAhead };
 
-    ghost remaining = { λ w. at_most (w.to - w.processor.tick) };
+    ghost remaining = { λ w. at_most (w.to - w.running.processor.tick) };
 
     fn next(&mut self) -> Option<Bar> {
-        let first = self.processor.tick();
+        let first = self.running.tick();
         let run = self.next_run()?;
         let mut length = run.length;
         while let Some(more) = self.more_of(run.id) {

@@ -8,7 +8,8 @@ ghost use Rattle.charts.specs.Few.{deadlines_few};
 ghost use Rattle.charts.specs.Walks.{Gives};
 
 use crate::deadlines::Deadlines;
-use crate::plan::{horizon, processor_of};
+use crate::plan::horizon;
+use crate::running::Running;
 use crate::walk::Walk;
 use entries::LateRequest;
 use sheets::{Sheet, SheetRow};
@@ -16,13 +17,12 @@ use sheets::{Sheet, SheetRow};
 impl<'s> Deadlines<'s> {
     // All deadlines of a sheet up to its horizon.
     pub fn of(sheet: &'s Sheet) -> Deadlines<'s>
-        ensures sheet { result.sheet.now ≡ sheet.now }
-        ensures tick { result.processor.tick ≡ 0 }
+        ensures sheet { result.running.sheet.now ≡ sheet.now }
+        ensures tick { result.running.processor.tick ≡ 0 }
         ensures place { result.place ≡ 0 }
     {
         Deadlines {
-            sheet,
-            processor: processor_of(sheet),
+            running: Running::of(sheet),
             place: 0,
             last: horizon(sheet),
         }
@@ -30,13 +30,13 @@ impl<'s> Deadlines<'s> {
 
     // The late request of a place whose deadline is this tick: something is owed, and no later request has come.
     fn late_at(&self, place: usize) -> Option<LateRequest>
-        requires { place < length (rows_of self.now.sheet.now) }
-        ensures { LateAt (rows_of self.now.sheet.now) place self.now.processor.tick result }
+        requires { place < length (rows_of self.now.running.sheet.now) }
+        ensures { LateAt (rows_of self.now.running.sheet.now) place self.now.running.processor.tick result }
     {
-        let row = self.sheet.rows()[place];
-        let deadline = self.processor.tick();
+        let row = self.running.rows()[place];
+        let deadline = self.running.tick();
         let request = request_due(row, deadline)?;
-        if self.processor.left(usize::from(row.level) - 1) == 0 {
+        if self.running.left(row) == 0 {
             return None;
         }
         Some(LateRequest {
@@ -48,11 +48,12 @@ impl<'s> Deadlines<'s> {
 
     // The next late request whose deadline is this tick.
     fn next_here(&mut self) -> Option<LateRequest>
-        requires { self.old.processor.tick ≤ self.old.last }
+        requires { self.old.running.processor.tick ≤ self.old.last }
         ensures { NextHere self.old result self.new }
     {
-        // Counted by hand: the place is kept from one call to the next.
-        while self.place < self.sheet.rows().len() {
+        // Counted by hand: the place is kept from one call to the next, and where none is late it ends behind the last row,
+        // which `next_tick` asks for. A `find_map` over the places would give pairs of place and request, taken apart twice.
+        while self.place < self.running.rows().len() {
             let late = self.late_at(self.place);
             self.place += 1;
             if late.is_some() {
@@ -64,13 +65,14 @@ impl<'s> Deadlines<'s> {
 
     // Goes on to the next tick, from the last place of this one.
     fn next_tick(&mut self)
-        requires near { self.old.processor.tick ≤ self.old.last }
-        requires passed { length (rows_of self.old.sheet.now) ≤ self.old.place }
+        requires near { self.old.running.processor.tick ≤ self.old.last }
+        requires passed { length (rows_of self.old.running.sheet.now) ≤ self.old.place }
         ensures skipped { Skipped self.old self.new }
-        ensures tick { self.new.processor.tick ≡ self.old.processor.tick + 1 }
+        ensures tick { self.new.running.processor.tick ≡ self.old.running.processor.tick + 1 }
         ensures last { self.new.last ≡ self.old.last }
     {
-        self.processor.advance(self.processor.tick() + 1);
+        let next = self.running.tick() + 1;
+        self.running.run_to(next);
         self.place = 0;
     }
 }
@@ -97,7 +99,7 @@ impl Iterator for Deadlines<'_> {
     ghost remaining = { λ w. at_most (places_left w) };
 
     fn next(&mut self) -> Option<LateRequest> {
-        while self.processor.tick() <= self.last {
+        while self.running.tick() <= self.last {
             if let Some(late) = self.next_here() {
                 return Some(late);
             }

@@ -1,5 +1,4 @@
 use Rattle.std.proofs.Common.{◌≡◌, ◌+◌, ◌<◌, ◌≤◌, rules, sym, subst}
-use borrow.Author.Tests.{tests}
 use Rattle.std.specs.Option.{option_map}
 use Rattle.std.proofs.lemmas.Iterator.{IsFirst-from_position, YieldsList-from_slice}
 use Rattle.entries.specs.Ticks.{FirstAtOrAfter}
@@ -15,4 +14,4 @@ returns g c =
     subst (FirstAtOrAfter _ tick) (sym place)
     (placed when entries tick c.position.result
     (IsFirst-from_position _ _ c.position.result (λ e. tick ≤ when e) (λ e. when e < tick) c.position.ensures.ran (YieldsList-from_slice entries cc)
-    (λ x q k. search (rules, tests)) (λ x q k. search (rules, tests))))
+    (λ x q k. search rules) (λ x q k. search rules)))

@@ -27,17 +27,42 @@ impl<J: Drop> Margin<J> {
     }
 }
 
+impl<J> Margin<J> {
+    // The case with more work, unless some work then passes its deadline. A loop: whether a row is changed hangs on its place,
+    // and a `map` would hold all of the loop's body.
+    fn stretched_case(&self, judged: Judged) -> Option<Case>
+        ensures { StretchedCase self.now.percent judged.entry result }
+    {
+        let rows = judged.case.rows();
+        let mut changed = ShortList::<Timed, MOST_TASKS>::new();
+        for (place, row) in rows.iter().enumerate() {
+            let mut row = *row;
+            if judged.is_member(place) {
+                row.figures.work = self.stretch(row.figures.work);
+            }
+            changed.push(row).unwrap();
+        }
+        Case::form(&changed).ok()
+    }
+
+    // So many percent more, rounded up.
+    fn stretch(&self, work: u16) -> u16
+        requires { work ≤ longest_period }
+        ensures { result ≡ stretched_work self.now.percent work }
+    {
+        (u32::from(work) * (100 + u32::from(self.percent))).div_ceil(100) as u16
+    }
+}
+
 impl<J: Judge> Judge for Margin<J> {
     ghost meaning = { λ margin. WithMargin margin.percent (J.Judge.meaning margin.judge) };
 
     ghost lawful = { λ judge. margin_lawful judge.percent (J.Judge.meaning judge.judge) (J.Judge.lawful judge.judge) };
 
     fn rule(&self, judged: Judged) -> bool {
-        // A match: with `is_some_and` what the rule ensures was not proved.
-        match stretched_case(self.percent, judged) {
-            Some(changed) => self.judge.rule(changed.judged(judged.place, judged.above)),
-            None => false,
-        }
+        self.stretched_case(judged).is_some_and(|changed| {
+            self.judge.rule(changed.judged(judged.place, judged.above))
+        })
     }
 }
 
@@ -49,34 +74,8 @@ impl<J: MeasuringJudge> MeasuringJudge for Margin<J> {
         (J.MeasuringJudge.reckons judge.judge) (J.MeasuringJudge.measured judge.judge) };
 
     fn response(&self, judged: Judged) -> Option<u32> {
-        let changed = stretched_case(self.percent, judged)?;
+        let changed = self.stretched_case(judged)?;
         self.judge
             .response(changed.judged(judged.place, judged.above))
     }
-}
-
-// The case with more work, unless some work then passes its deadline.
-fn stretched_case(percent: u16, judged: Judged) -> Option<Case>
-    requires { percent ≤ largest_margin }
-    ensures { StretchedCase percent judged.entry result }
-{
-    let rows = judged.case.rows();
-    let mut changed = ShortList::<Timed, MOST_TASKS>::new();
-    for (place, row) in rows.iter().enumerate() {
-        let mut row = *row;
-        if place == judged.place || judged.above.contains(place) {
-            row.figures.work = stretch(percent, row.figures.work);
-        }
-        changed.push(row).unwrap();
-    }
-    Case::form(&changed).ok()
-}
-
-// So many percent more, rounded up.
-fn stretch(percent: u16, work: u16) -> u16
-    requires small { percent ≤ largest_margin }
-    requires short { work ≤ longest_period }
-    ensures { result ≡ stretched_work percent work }
-{
-    (u32::from(work) * (100 + u32::from(percent))).div_ceil(100) as u16
 }

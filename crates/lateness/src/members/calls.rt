@@ -31,11 +31,10 @@ impl<'a> Members<'a> {
     pub(super) fn task(&self, place: usize) -> Option<TimedTask>
         ensures { MemberAt self.now place result }
     {
-        if place == self.judged.place || self.judged.above.contains(place) {
-            self.judged.case.task(place)
-        } else {
-            None
+        if !self.judged.is_member(place) {
+            return None;
         }
+        self.judged.case.task(place)
     }
 
     // All members, in order of place.
@@ -56,7 +55,8 @@ impl<'a> Members<'a> {
         self.judged.case.task(self.judged.place).unwrap()
     }
 
-    // The common period of the members.
+    // The common period of the members. A loop of its own: they come from a walk, and `tasks::periods_of` takes a slice. Of an
+    // iterator it could tell the reason only of the periods that came, as it stops at the first that is not taken.
     pub fn common_period(self) -> u32
         ensures { CommonPeriod self.entry result }
     {
@@ -71,14 +71,15 @@ impl<'a> Members<'a> {
     pub fn latest_start(self) -> u32
         ensures { StartsBy self.entry result }
     {
-        self.walk().fold(
-            0,
-            |latest, member| latest.max(u32::from(member.timed.start)),
-        )
+        self.walk()
+            .map(|member| u32::from(member.timed.start))
+            .max()
+            .unwrap_or(0)
     }
 
     // The work of the members in some ticks, a whole number of each period. A loop here: under a `fold` it stayed open that
-    // the sum fits at each turn, since what bounds it is the place of the walk.
+    // the sum fits at each turn, since what bounds it is the place of the walk. The product stands in `tasks` too, where it asks
+    // for few ticks: a public function could not.
     pub fn load(self, ticks: u32) -> u32
         requires { ticks ≤ longest_common_period }
         ensures { result ≡ load_through (tasks_in self.entry) (levels_in self.entry) (levels_in self.entry self.entry.judged.place) ticks }
@@ -91,7 +92,8 @@ impl<'a> Members<'a> {
         load
     }
 
-    // Those above in order of place, and the judged task below them, on a processor of their own.
+    // Those above in order of place, and the judged task below them, on a processor of their own. A loop of its own: they
+    // come from a walk that passes the judged place too, and one loader of any iterator would have to be told what this gives.
     pub fn processor(self) -> Processor
         ensures { Hosts self.entry result }
     {

@@ -46,8 +46,8 @@ impl Choices {
         self.total
     }
 
-    // The start of each place in the choice of a rank, counted from 0; 0 in the places without a task. An array: it is whole,
-    // with no length beside it.
+    // The start of each place in the choice of a rank, counted from 0; 0 in the places without a task. An array, which is whole
+    // with no length beside it: a list would tell the number of tasks once more, which who asks for starts has.
     pub fn starts(&self, rank: u32) -> Option<[u16; MOST_TASKS]>
         ensures value { result ≡ starts_of (listed_periods self.now) rank }
         ensures ranks { RanksListTheChoices (listed_periods self.now) }

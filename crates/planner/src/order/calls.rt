@@ -16,12 +16,9 @@ impl Order {
         ensures count { length (places_of result) ≡ min count most_tasks }
         ensures places { (place : ℕ) → place < length (places_of result) → place_at result place ≡ place }
     {
-        let mut places = ShortList::<usize, MOST_TASKS>::new();
-        // A range: each place is the number itself.
-        for place in 0..count.min(MOST_TASKS) {
-            places.push(place).unwrap();
+        Order {
+            places: ShortList::from_iter(0..count.min(MOST_TASKS)).unwrap(),
         }
-        Order { places }
     }
 
     // How many places are ordered.
@@ -62,13 +59,8 @@ impl Order {
 
     // The places at the positions before this one.
     pub(crate) fn earlier(&self, position: usize) -> Places
-        requires { position ≤ length (places_of self.now) }
         ensures { (place : ℕ) → place < length (places_of self.now) → has result place ≡ nat_lt (position_of self.now place) position }
     {
-        let mut earlier = Places::none();
-        for place in &self.places[..position] {
-            earlier.add(*place);
-        }
-        earlier
+        Places::from_fn(|place| self.position(place).is_some_and(|at| at < position))
     }
 }

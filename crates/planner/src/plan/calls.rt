@@ -1,5 +1,6 @@
 // The calls of a plan.
-ghost use Rattle.std.specs.Prelude.{◌≡◌, if◌then◌else◌, Some, None, nat_lt};
+ghost use Rattle.std.specs.Prelude.{◌≡◌, ◌≤◌, if◌then◌else◌, length, Some, None, nat_lt};
+ghost use Rattle.periods.specs.Multiples.{most_tasks};
 ghost use Rattle.planner.specs.Plans.{given_in, given_by, count_of, start_at, level_at};
 
 use crate::order::Order;
@@ -12,24 +13,29 @@ impl Plan {
     pub(crate) fn new(starts: [u16; MOST_TASKS], order: &Order) -> Plan
         ensures { given_in result ≡ given_by starts order.now }
     {
-        let mut given = ShortList::<Assignment, MOST_TASKS>::new();
-        for (place, start) in starts[..order.count()].iter().enumerate() {
-            let level = order.level(place).unwrap();
-            given
-                .push(Assignment {
-                    start: *start,
-                    level,
-                })
-                .unwrap();
+        // By place, since the order is asked by place.
+        let given = (0..order.count()).map(|place| Assignment {
+            start: starts[place],
+            level: order.level(place).unwrap(),
+        });
+        Plan {
+            given: ShortList::from_iter(given).unwrap(),
         }
-        Plan { given }
+    }
+
+    // What the tasks are given, by place.
+    pub fn assignments(&self) -> &[Assignment]
+        ensures value { result.now ≡ given_in self.now }
+        ensures few { length result.now ≤ most_tasks }
+    {
+        self.given.as_slice()
     }
 
     // How many tasks are planned.
     pub fn count(&self) -> usize
         ensures { result ≡ count_of self.now }
     {
-        self.given.as_slice().len()
+        self.assignments().len()
     }
 
     pub fn start(&self, place: usize) -> Option<u16>

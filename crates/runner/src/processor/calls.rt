@@ -2,7 +2,7 @@ ghost use Rattle.std.specs.Prelude.{◌≡◌, MatchResult, Err, Some, None};
 ghost use Rattle.std.specs.Result.{result_err};
 ghost use Rattle.runner.specs.Adding.{not_taken};
 ghost use Rattle.runner.specs.Processor.{count_of, levels_of};
-ghost use Rattle.runner.specs.Running.{Stands, nothing, Added, Advanced};
+ghost use Rattle.runner.specs.Running.{Stands, nothing, Added, Advanced, RanTo};
 ghost use Rattle.runner.specs.Steps.{RequestsTaken, ToRun, Soonest, Spent};
 
 use crate::LAST_TICK;
@@ -58,6 +58,13 @@ impl Processor {
         let length = self.spend(runs, soonest - from);
         self.tick = from + length;
         Some(Span { runs, from, length })
+    }
+
+    // Runs up to a tick, or to the last tick. Where it stands there or beyond, it stays.
+    pub fn run_to(&mut self, until: u32)
+        ensures { RanTo self.old until self.new }
+    {
+        while self.advance(until).is_some() {}
     }
 
     // The requests that fall at this tick bring their units.

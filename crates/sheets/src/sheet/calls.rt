@@ -1,5 +1,6 @@
 // Forming a sheet, and its rows.
 ghost use Rattle.std.specs.Prelude.{◌≡◌, None};
+ghost use Rattle.short_list.specs.Items.{items_of};
 ghost use Rattle.periods.specs.Multiples.{common_period};
 ghost use Rattle.tasks.specs.Loads.{periods_in};
 ghost use Rattle.tasks.specs.Timed.{figures_given};
@@ -10,6 +11,7 @@ use crate::check::check_rows;
 use crate::fault::SheetFault;
 use crate::row::SheetRow;
 use crate::sheet::Sheet;
+use periods::MOST_TASKS;
 use short_list::ShortList;
 use tasks::periods_of;
 
@@ -19,8 +21,14 @@ impl Sheet {
         ensures value { Gives (rows_fault rows.now) rows.now result }
         ensures sound { (rows_fault rows.now ≡ None → Sound rows.now) × (Sound rows.now → rows_fault rows.now ≡ None) }
     {
-        let rows = ShortList::try_from(rows)?;
-        check_rows(rows.as_slice())?;
+        Sheet::checked(ShortList::try_from(rows)?)
+    }
+
+    // The same of rows that are not too many.
+    pub(super) fn checked(rows: ShortList<SheetRow, MOST_TASKS>) -> Result<Sheet, SheetFault>
+        ensures { Gives (rows_fault (items_of rows)) (items_of rows) result }
+    {
+        check_rows(&rows)?;
         Ok(Sheet { rows })
     }
 

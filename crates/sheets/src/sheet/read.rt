@@ -1,17 +1,16 @@
 // A sheet from its bytes.
-ghost use Rattle.std.specs.Prelude.{◌≡◌, ◌*◌, ◌/◌, ◌<◌, length, Some, MatchResult};
+ghost use Rattle.std.specs.Prelude.{◌≡◌, ◌*◌, ◌/◌, ◌≤◌, length, Some, MatchResult};
 ghost use Rattle.short_list.specs.Items.{items_of};
 ghost use Rattle.periods.specs.Multiples.{most_tasks};
 ghost use Rattle.sheets.specs.Bytes.{rows_in, entries_in, header_fault, sheet_fault, RightHeader};
 ghost use Rattle.sheets.specs.Sheets.{Gives, ReadsEncoded};
 
-use crate::check::check_count;
 use crate::fault::SheetFault;
 use crate::row::SheetRow;
 use crate::sheet::Sheet;
 use crate::sheet::sizes::{HEADER, TASK_ENTRY, sheet_length};
 use periods::MOST_TASKS;
-use short_list::{Full, ShortList};
+use short_list::ShortList;
 use tasks::Figures;
 
 impl Sheet {
@@ -22,8 +21,7 @@ impl Sheet {
     {
         let count = read_header(bytes)?;
         let (tasks, plans) = bytes[HEADER..].split_at(TASK_ENTRY * count);
-        let rows = read_rows(tasks, plans)?;
-        Sheet::form(rows.as_slice())
+        Sheet::checked(read_rows(tasks, plans))
     }
 }
 
@@ -35,7 +33,9 @@ fn read_header(bytes: &[u8]) -> Result<usize, SheetFault>
         return Err(SheetFault::NoHeader);
     };
     let count = usize::from(u16::from_be_bytes([*n1, *n0]));
-    check_count(count)?;
+    if count == 0 || count > MOST_TASKS {
+        return Err(SheetFault::WrongCount);
+    }
     let length = usize::from(u16::from_be_bytes([*l1, *l0]));
     if length != sheet_length(count) || length != bytes.len() {
         return Err(SheetFault::WrongLength);
@@ -43,13 +43,14 @@ fn read_header(bytes: &[u8]) -> Result<usize, SheetFault>
     Ok(count)
 }
 
-// The rows of as many entries of each kind, if there are no more than a sheet holds.
-fn read_rows(mut tasks: &[u8], mut plans: &[u8]) -> Result<ShortList<SheetRow, MOST_TASKS>, Full>
-    requires { length plans.now / 3 ≡ length tasks.now / 7 }
-    ensures { MatchResult result (λ rows. items_of rows ≡ rows_in (length tasks.now / 7) tasks.now plans.now) (λ _. most_tasks < length tasks.now / 7) }
+// The rows of as many entries of each kind.
+fn read_rows(mut tasks: &[u8], mut plans: &[u8]) -> ShortList<SheetRow, MOST_TASKS>
+    requires paired { length plans.now / 3 ≡ length tasks.now / 7 }
+    requires few { length tasks.now / 7 ≤ most_tasks }
+    ensures { items_of result ≡ rows_in (length tasks.now / 7) tasks.now plans.now }
 {
     let mut rows = ShortList::new();
-    // A fixed form: each entry is matched as named bytes and the rest of the slice.
+    // The customer fixed this form: each entry is matched as named bytes and the rest of the slice.
     while let [id, w1, w0, p1, p0, d1, d0, more_tasks @ ..] = tasks
         && let [s1, s0, level, more_plans @ ..] = plans
     {
@@ -62,9 +63,10 @@ fn read_rows(mut tasks: &[u8], mut plans: &[u8]) -> Result<ShortList<SheetRow, M
             },
             start: u16::from_be_bytes([*s1, *s0]),
             level: *level,
-        })?;
+        })
+        .unwrap();
         tasks = more_tasks;
         plans = more_plans;
     }
-    Ok(rows)
+    rows
 }

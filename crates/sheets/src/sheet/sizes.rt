@@ -10,6 +10,7 @@ pub(super) const TASK_ENTRY: usize = 7;
 pub(super) const PLAN_ENTRY: usize = 3;
 
 // The bytes of a sheet with this many tasks.
+// A count that fits a sheet has no type of its own, since only three private functions ask for it.
 pub(super) fn sheet_length(count: usize) -> usize
     requires { count ≤ most_tasks }
     ensures { result ≡ sheet_length count }

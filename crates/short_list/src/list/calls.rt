@@ -1,8 +1,10 @@
-ghost use Rattle.std.specs.Prelude.{◌≡◌, ◌<◌, ◌≤◌, ◌&&◌, ◌↔◌, [], ◌∷◌, ◌++◌, length, cond, nat_lt, IsOk, OnOk, OnErr, MatchResult, slice_get, slice_set, swap};
+ghost use Rattle.std.specs.Prelude.{◌≡◌, ◌<◌, ◌≤◌, ◌&&◌, ◌↔◌, [], ◌∷◌, ◌++◌, length, cond, nat_lt, IsOk, OnOk, OnErr, IfOk, MatchResult, slice_get, slice_set, swap};
+ghost use Rattle.std.specs.Iterator.{IsFinite, size};
+ghost use Rattle.std.specs.Iterator.Runs.{SomeRun, WholeRun};
 ghost use Rattle.std.specs.List.{All, AllZip, insert, remove};
 ghost use Rattle.short_list.specs.Items.{items_of, with_swapped, Swapped};
 
-use crate::list::shifts::{change, last_to, take_out};
+use crate::list::shifts::{last_to, take_out};
 use crate::list::{Full, ShortList};
 use std::alloc::AllocError;
 use std::ops::DerefSlice;
@@ -17,10 +19,26 @@ impl<T: Copy + Default, const N: usize> ShortList<T, N> {
             len: 0,
         }
     }
+
+    // The items that an iterator gives, in order, if they are not too many. It asks of the iterator what every function asks
+    // that goes through one: that it may be called, and ends.
+    pub fn from_iter<I: Iterator<Item = T>>(items: I) -> Result<Self, Full>
+        requires can { I.can_next items }
+        requires finite { IsFinite (I.remaining items) }
+        ensures all { IfOk result (λ list. WholeRun I.next_gives items (λ run. items_of list ≡ run.items)) }
+        ensures full { OnErr result (SomeRun I.next_gives items (λ run. N < run.len)) }
+        ensures room { size (I.remaining items) ≤ N → IsOk result }
+    {
+        let mut list = ShortList::new();
+        for item in items {
+            list.push(item)?;
+        }
+        Ok(list)
+    }
 }
 
 impl<T: Copy, const N: usize> ShortList<T, N> {
-    // The items, in order.
+    // The items, in order. A slice has no bound in its type: here, and where another type shows one, a clause says it.
     pub fn as_slice(&self) -> &[T]
         ensures value { result.now ≡ items_of self.now }
         ensures few { length result.now ≤ N }
@@ -90,7 +108,9 @@ impl<T: Copy, const N: usize> ShortList<T, N> {
         requires { All (F.pre by) (items_of self.old) }
         ensures { AllZip (F.post by) (items_of self.old) (items_of self.new) }
     {
-        change(&mut self.slots[..self.len], by);
+        for item in self.slots[..self.len].iter_mut() {
+            *item = by(*item);
+        }
     }
 }
 
@@ -123,6 +143,7 @@ impl<T: Copy + Default, const N: usize> TryFrom<&[T]> for ShortList<T, N> {
     }
 }
 
+// By hand: no derive serves a generic struct with a ghost field.
 impl<T: Copy, const N: usize> Clone for ShortList<T, N> {
     ghost is_clone = { λ list copy. copy ≡ list };
 

@@ -1,6 +1,6 @@
-// Shifts and changes within a slice.
+// Shifts within a slice.
 ghost use Rattle.std.specs.Prelude.{◌≡◌, ◌<◌, List, [], ◌∷◌, ◌++◌, length, take, ◌-◌};
-ghost use Rattle.std.specs.List.{All, AllZip, insert, remove};
+ghost use Rattle.std.specs.List.{insert, remove};
 
 // Moves the last item to a place, and the items from there on up.
 pub(super) fn last_to<T>(items: &mut [T], place: usize)
@@ -16,14 +16,4 @@ pub(super) fn take_out<T>(items: &mut [T], place: usize)
     ensures { take (length items.old - 1) items.new ≡ remove items.old place }
 {
     items[place..].rotate_left(1);
-}
-
-// Puts what a function gives of it in the place of each item.
-pub(super) fn change<T: Copy, F: Fn(T) -> T>(items: &mut [T], by: F)
-    requires { All (F.pre by) items.old }
-    ensures { AllZip (F.post by) items.old items.new }
-{
-    for item in items.iter_mut() {
-        *item = by(*item);
-    }
 }

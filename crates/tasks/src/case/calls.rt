@@ -18,6 +18,7 @@ impl Case {
         ensures value { Formed rows.now result }
         ensures sound { (case_refusal rows.now ≡ None → Sound rows.now) × (Sound rows.now → case_refusal rows.now ≡ None) }
     {
+        // A fault is what is looked for, and an option of it no result yet.
         if let Some(fault) = first_fault(rows) {
             return Err(Refusal::Figures(fault));
         }
@@ -49,7 +50,7 @@ impl Case {
     }
 }
 
-// The first fault that any of the tasks has.
+// The first fault that any of the tasks has. A chain as that of one task's figures, with another test.
 fn first_fault(rows: &[Timed]) -> Option<TaskFault>
     ensures { result ≡ first_fault_in rows.now }
 {

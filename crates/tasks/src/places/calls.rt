@@ -1,9 +1,11 @@
 // Making and asking sets of places.
-ghost use Rattle.std.specs.Prelude.{◌≡◌, ℕ, false};
+ghost use Rattle.std.specs.Prelude.{◌≡◌, ℕ, ◌<◌, ◌≤◌, false};
+ghost use Rattle.periods.specs.Multiples.{most_tasks};
 ghost use Rattle.tasks.specs.Places.{has as has_place, added};
 
 use crate::places::Places;
 use periods::MOST_TASKS;
+use std::array;
 
 impl Places {
     // No place.
@@ -12,6 +14,17 @@ impl Places {
     {
         Places {
             has: [false; MOST_TASKS],
+        }
+    }
+
+    // The places for which a test says yes.
+    pub fn from_fn<F: Fn(usize) -> bool>(test: F) -> Places
+        requires { (place : ℕ) → place < most_tasks → F.pre test place }
+        ensures inside { (place : ℕ) → place < most_tasks → F.post test place (has_place result place) }
+        ensures beyond { (place : ℕ) → most_tasks ≤ place → has_place result place ≡ false }
+    {
+        Places {
+            has: array::from_fn(test),
         }
     }
 

@@ -1,21 +1,21 @@
 // The calls of a table.
-ghost use Rattle.std.specs.Prelude.{◌≡◌, ◌≤◌, [], length, Some, None, MatchResult};
+ghost use Rattle.std.specs.Prelude.{◌≡◌, ◌≤◌, [], length, Some, None, ◌==◌};
 ghost use Rattle.std.specs.List.{AllByRecursion};
 ghost use Rattle.periods.specs.Listed.{ChoicesTimesPeriod, OneListedChoice};
 ghost use Rattle.periods.specs.Lists.{ListsChoices};
 ghost use Rattle.periods.specs.Multiples.{most_tasks, common_period, period_refusal, LeastCommonMultiple};
 ghost use Rattle.periods.specs.Rows.{periods_of};
-ghost use Rattle.refusals.specs.Answers.{answer, AnswersWith};
+ghost use Rattle.refusals.specs.Answers.{answer, refuse_if, AnswersWith};
+ghost use Rattle.refusals.specs.declared.Refusal.TheVariants.{ZeroId};
 ghost use Rattle.tasks.specs.Figures.{Fair};
 ghost use Rattle.tasks.specs.Loads.{load as load_of};
 ghost use Rattle.tasks.specs.Rows.{row_of, Rising, figures_of, place_of, id_at, entered, amended, struck, standing_refusal, unknown_refusal, enter_refusal, amend_refusal};
-ghost use Rattle.tasks.specs.Seeking.{StandsAt, BelongsAt};
+ghost use Rattle.tasks.specs.Seeking.{StandsAt, BelongsAt, Sought};
 ghost use Rattle.tasks.specs.Tables.{rows_of, figures_in, periods_held, Updated, OnlyAt};
 
 use crate::figures::Figures;
 use crate::rows::{Row, periods_of};
 use crate::table::Table;
-use crate::task::Task;
 use periods::{Choices, Periods};
 use refusals::Refusal;
 use short_list::ShortList;
@@ -55,31 +55,28 @@ impl Table {
         Some(row.id)
     }
 
-    // Where the id stands, or else where it belongs, counted from 0.
-    fn seek(&self, id: u8) -> Result<usize, usize>
-        ensures { MatchResult result (StandsAt id (rows_of self.now)) (BelongsAt id (rows_of self.now)) }
+    // Where an id stands, or else where it belongs, counted from 0. No task has the id 0.
+    fn seek(&self, id: u8) -> Result<Result<usize, usize>, Refusal>
+        ensures { AnswersWith (refuse_if (id == 0) ZeroId) (Sought id (rows_of self.now)) result }
     {
-        self.rows.binary_search_by_key(&id, |row| row.id)
+        if id == 0 {
+            return Err(Refusal::ZeroId);
+        }
+        Ok(self.rows.binary_search_by_key(&id, |row| row.id))
     }
 
     // Where the id stands.
     fn find(&self, id: u8) -> Result<usize, Refusal>
         ensures { AnswersWith (unknown_refusal id (rows_of self.now)) (StandsAt id (rows_of self.now)) result }
     {
-        if id == 0 {
-            return Err(Refusal::ZeroId);
-        }
-        self.seek(id).map_err(|_| Refusal::UnknownId)
+        self.seek(id)?.map_err(|_| Refusal::UnknownId)
     }
 
     // Where an id that does not stand belongs.
     fn find_gap(&self, id: u8) -> Result<usize, Refusal>
         ensures { AnswersWith (standing_refusal id (rows_of self.now)) (BelongsAt id (rows_of self.now)) result }
     {
-        if id == 0 {
-            return Err(Refusal::ZeroId);
-        }
-        self.seek(id).err().ok_or(Refusal::StandingId)
+        self.seek(id)?.err().ok_or(Refusal::StandingId)
     }
 
     // The figures of the task with this id.
@@ -104,11 +101,7 @@ impl Table {
         ensures law { OnlyAt id (Some figures) self.old self.new result }
     {
         let at = self.find_gap(id)?;
-        let task = Task::form(figures)?;
-        let row = Row {
-            id,
-            figures: task.figures(),
-        };
+        let row = Row::form(id, figures)?;
         self.rows
             .insert(at, row)
             .map_err(|_| Refusal::TooManyTasks)?;
@@ -121,11 +114,7 @@ impl Table {
         ensures law { OnlyAt id (Some figures) self.old self.new result }
     {
         let at = self.find(id)?;
-        let task = Task::form(figures)?;
-        let row = Row {
-            id,
-            figures: task.figures(),
-        };
+        let row = Row::form(id, figures)?;
         self.rows.replace(at, row);
         Ok(())
     }

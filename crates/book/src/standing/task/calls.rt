@@ -52,13 +52,7 @@ impl PlannedTask<'_> {
     {
         let rows = self.plan.sheet().rows();
         let level = self.level();
-        let mut above = Places::none();
-        for (other, row) in rows.iter().enumerate() {
-            if row.level < level {
-                above.add(other);
-            }
-        }
-        above
+        Places::from_fn(|other| rows.get(other).is_some_and(|row| row.level < level))
     }
 
     // The worst response on the endless timeline.

@@ -1,6 +1,6 @@
-use Rattle.std.proofs.Common.{sym, subst, arith}
+use Rattle.std.proofs.Common.{length, ◌≢◌, sym, subst, rules, arith}
 use Rattle.std.proofs.lemmas.Result.{err_from_is_err_and}
-use Rattle.entries.specs.Lists.{Refilled}
+use Rattle.entries.specs.Lists.{Refilled, held, slots_of}
 use Rattle.entries.proofs.Filling.{filled_full}
 use Rattle.charts.proofs.Filling.{drained_ahead, more_ahead, all_ahead}
 use Rattle.charts.proofs.walk.fill.Goals as goal
@@ -16,14 +16,14 @@ returns-in_err-clear_for g c =
     )
 
 -- the list has room for what was counted
-pub returns-in_err-add : goal.returns-in_err-add
-returns-in_err-add g c =
+pub unwrap-requires : goal.unwrap-requires
+unwrap-requires g c =
     let counted = c.count.ensures.ran in
     let ahead = drained_ahead g.W.Walk.ahead g.W.Iterator.next_gives g.met.W.Walk.gives _ _ counted.1 in
     let same = c.into_iter-entry-iterator.ensures.into_iter_gives in
     let more = more_ahead g.W.Walk.ahead g.W.Iterator.next_gives g.met.W.Walk.gives _ _ _ _ _ c.loop-entry.yielded_by (subst (λ w. g.W.Walk.ahead w counted.0) (sym same) ahead) _ c.in-Some.ensures.steps in
-    let full = filled_full _ _ c.loop-entry.list c.loop-entry.invariant.0 c.in_err-add.ensures.1 in
-    absurd (omega (arith, c.in_ok-clear_for.ensures.0, more, full, counted.2))
+    let room : length (held c.loop-entry.list) ≢ length (slots_of c.loop-entry.list) = λ full. omega (arith, c.in_ok-clear_for.ensures.0, more, filled_full _ _ c.loop-entry.list c.loop-entry.invariant.0 full, counted.2) in
+    search rules
 
 pub returns : goal.returns
 returns g c =

@@ -4,52 +4,54 @@ use Rattle.std.specs.Result.{result_err}
 use Rattle.std.proofs.lemmas.Result.{err_from_is_err_and}
 use Rattle.periods.specs.Rows.{periods_of}
 use Rattle.tasks.specs.Loads.{periods_in}
-use Rattle.sheets.specs.Checks.{id_fault, figures_fault, start_fault, level_fault, first_wrong}
+use Rattle.sheets.specs.Checks.{id_fault, figures_fault, start_fault, level_fault, first_wrong, rows_fault}
 use Rattle.sheets.specs.declared.fault.SheetFault.TheVariants.{LongCommonPeriod}
 use Rattle.sheets.proofs.Entries.{period_found, figures_timed}
-use Rattle.sheets.proofs.Soundness.{count_right, entry_parts, fair_from_passed, count_said, entry_said, period_said}
+use Rattle.sheets.proofs.Soundness.{some_counted, few_counted, entry_parts, fair_from_passed, none_said, entry_said, period_said}
 use Rattle.sheets.proofs.check.check_rows.Goals as goal
 
-pub returns-in_err-check_count : goal.returns-in_err-check_count
-returns-in_err-check_count c =
-    let exit = err_from_is_err_and c.from_residual.result c.from_residual.ensures.1 in
-    rw (exit.1, exit.2) (count_said c.args.rows.now _ c.in_err-check_count.ensures)
+pub returns-then-is_empty : goal.returns-then-is_empty
+returns-then-is_empty c =
+    none_said c.as_slice-rows.result.now c.if-is_empty.ensures ∙ ap rows_fault c.as_slice-rows.ensures.value
 
 pub returns-in_err-check_entries : goal.returns-in_err-check_entries
 returns-in_err-check_entries c =
-    let left = c.from_residual-in_err-check_entries in
+    let rows = c.as_slice-rows.result.now in
+    let left = c.from_residual in
     let exit = err_from_is_err_and left.result left.ensures.1 in
     rw (exit.1, exit.2)
-    (entry_said c.args.rows.now _ c.in_ok-check_count.ensures c.in_err-check_entries.ensures)
+    (entry_said rows _ (few_counted _ c.if-is_empty.ensures c.as_slice-rows.ensures.few) c.in_err-check_entries.ensures
+    ∙ ap rows_fault c.as_slice-rows.ensures.value)
 
 pub unwrap-requires : goal.unwrap-requires
 unwrap-requires c =
-    let rows = c.args.rows.now in
-    let count = count_right _ (sym c.in_ok-check_count.ensures) in
+    let rows = c.as_slice-rows.result.now in
     let entries =
     entry_parts (first_wrong id_fault [] rows) (first_wrong (λ _. figures_fault) [] rows) (first_wrong (λ _. start_fault) [] rows) (first_wrong (level_fault (length rows)) [] rows)
     (sym c.in_ok-check_entries.ensures) in
-    c.periods_of.ensures.fair count.1 (fair_from_passed rows entries.1)
+    c.periods_of.ensures.fair c.as_slice-rows.ensures.few (fair_from_passed rows entries.1)
 
 pub returns-in_err-map_err : goal.returns-in_err-map_err
 returns-in_err-map_err c =
-    let count = count_right _ (sym c.in_ok-check_count.ensures) in
+    let rows = c.as_slice-rows.result.now in
     let found : result_err c.map_err.result ≡ option_map (λ _. LongCommonPeriod) (result_err c.common_period.result) = search rules in
-    let held : periods_of c.unwrap.result ≡ periods_in (map (λ row. row.figures) c.args.rows.now) = search rules in
-    let periods = held ∙ ap periods_in (sym (figures_timed c.args.rows.now)) in
+    let held : periods_of c.unwrap.result ≡ periods_in (map (λ row. row.figures) rows) = search rules in
+    let periods = held ∙ ap periods_in (sym (figures_timed rows)) in
     let left = c.from_residual-in_err-map_err in
     let exit = err_from_is_err_and left.result left.ensures.1 in
     rw (exit.1, exit.2)
     (sym (ap result_err c.in_err-map_err.was) ∙ found
-    ∙ period_found (periods_of c.unwrap.result) c.args.rows.now periods _ count.0 c.common_period.ensures.value
-    ∙ period_said c.args.rows.now c.in_ok-check_count.ensures c.in_ok-check_entries.ensures)
+    ∙ period_found (periods_of c.unwrap.result) rows periods _ (some_counted _ c.if-is_empty.ensures) c.common_period.ensures.value
+    ∙ period_said rows (few_counted _ c.if-is_empty.ensures c.as_slice-rows.ensures.few) c.in_ok-check_entries.ensures
+    ∙ ap rows_fault c.as_slice-rows.ensures.value)
 
 pub returns : goal.returns
 returns c =
-    let count = count_right _ (sym c.in_ok-check_count.ensures) in
+    let rows = c.as_slice-rows.result.now in
     let found : result_err c.map_err.result ≡ option_map (λ _. LongCommonPeriod) (result_err c.common_period.result) = search rules in
-    let held : periods_of c.unwrap.result ≡ periods_in (map (λ row. row.figures) c.args.rows.now) = search rules in
-    let periods = held ∙ ap periods_in (sym (figures_timed c.args.rows.now)) in
+    let held : periods_of c.unwrap.result ≡ periods_in (map (λ row. row.figures) rows) = search rules in
+    let periods = held ∙ ap periods_in (sym (figures_timed rows)) in
     sym (ap result_err c.in_ok-map_err.was) ∙ found
-    ∙ period_found (periods_of c.unwrap.result) c.args.rows.now periods _ count.0 c.common_period.ensures.value
-    ∙ period_said c.args.rows.now c.in_ok-check_count.ensures c.in_ok-check_entries.ensures
+    ∙ period_found (periods_of c.unwrap.result) rows periods _ (some_counted _ c.if-is_empty.ensures) c.common_period.ensures.value
+    ∙ period_said rows (few_counted _ c.if-is_empty.ensures c.as_slice-rows.ensures.few) c.in_ok-check_entries.ensures
+    ∙ ap rows_fault c.as_slice-rows.ensures.value

@@ -1,9 +1,8 @@
-use Rattle.std.proofs.Common.{rules}
 use Rattle.judges.specs.MarginLaws.{no_margin}
 use Rattle.judges.proofs.margin.Margin.new.Goals as goal
 
-pub returns-then-percent-gt-LARGEST_MARGIN : goal.returns-then-percent-gt-LARGEST_MARGIN
-returns-then-percent-gt-LARGEST_MARGIN g c = record { value = search rules; nothing = no_margin }
+pub returns-then-percent-gt-LARGEST_MARGIN-clause-nothing : goal.returns-then-percent-gt-LARGEST_MARGIN-clause-nothing
+returns-then-percent-gt-LARGEST_MARGIN-clause-nothing g c = no_margin
 
-pub returns : goal.returns
-returns g c = record { value = search rules; nothing = no_margin }
+pub returns-clause-nothing : goal.returns-clause-nothing
+returns-clause-nothing g c = no_margin

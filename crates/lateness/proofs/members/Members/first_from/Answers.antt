@@ -61,6 +61,5 @@ pub returns : goal.returns
 returns c =
     let run = c.find_map.ensures.runs in
     let m = c.args.self.now in
-    let up' : ItemsCountUp run.0 c.args.from c.places.result = search (rules, returning) in
-    let up : ItemsCountUp run.0 c.args.from (length (tasks_in m)) = subst (ItemsCountUp run.0 c.args.from) c.places.ensures up' in
+    let up : ItemsCountUp run.0 c.args.from (length (tasks_in m)) = search (rules, returning) in
     told m c.args.from run.0 up c.find_map.result run.2 (λ a r f' called. search rules) (λ x o called. asked m x o (search rules))

@@ -1,22 +1,12 @@
-use Rattle.std.proofs.Common.{arith, rules}
-use Rattle.planner.proofs.Positions.{place_own, length_own, own_more, own_holds, own_has}
+use Rattle.std.proofs.Common.{◌≡◌, ℕ, ◌<◌, length, rules}
+use Rattle.std.proofs.iter.Serving.{returning}
+use Rattle.short_list.specs.Items.{items_of}
+use Rattle.planner.specs.Positions.{place_in}
+use Rattle.planner.proofs.Positions.{own_holds, own_has}
 use Rattle.planner.proofs.order.Order.new.Goals as goal
 
-pub unwrap-requires : goal.unwrap-requires
-unwrap-requires c = c.push.ensures.room.1 (omega (arith, length_own c.loop-place.place _ c.loop-place.invariant, c.loop-place-test.true, c.min-place-end.ensures))
-
-pub loop-place-preserved : goal.loop-place-preserved
-loop-place-preserved c = own_more c.loop-place.place _ _ c.loop-place.invariant (search rules)
-
 pub invariant_of-result : goal.invariant_of-result
-invariant_of-result c = record {
-  holds = own_holds c.loop-place.place _ c.loop-place.invariant;
-  has = own_has c.loop-place.place _ c.loop-place.invariant;
-}
-
-pub returns : goal.returns
-returns c =
-    record {
-      count = omega (arith, length_own c.loop-place.place _ c.loop-place.invariant, c.loop-place-test.false, c.loop-place.auto.place-end, c.min-place-end.ensures);
-      places = place_own c.loop-place.place _ c.loop-place.invariant;
-    }
+invariant_of-result c =
+    let places = items_of c.unwrap.result in
+    let own : (place : ℕ) → place < length places → place_in places place ≡ place = λ place inside. search (rules, returning) in
+    record { holds = own_holds places own; has = own_has places own }

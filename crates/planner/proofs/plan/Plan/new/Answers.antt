@@ -1,23 +1,17 @@
-use Rattle.std.proofs.Common.{length, sym, ap, ◌∙◌, arith, rules}
-use Rattle.std.proofs.lemmas.List.{get_or-take, length-take}
-use Rattle.std.proofs.lemmas.List.FromFn.{length-map-range_with_len}
-use Rattle.planner.proofs.Positions.{answered_below}
-use Rattle.planner.proofs.Starts.{given_more}
+use Rattle.std.proofs.Common.{ℕ, map, ap, ◌∙◌, subst, rules}
+use Rattle.std.proofs.iter.runs.Sources.{range_runs}
+use Rattle.std.specs.Iterator.Runs.{ItemsCountUp}
+use Rattle.periods.specs.Listed.{start_of}
+use Rattle.short_list.proofs.Collected.{collected, counted_up}
+use Rattle.planner.specs.Orders.{level_of}
+use Rattle.planner.specs.Plans.{given_to}
+use Rattle.planner.specs.declared.plan.Assignment.{Assignment}
 use Rattle.planner.proofs.plan.Plan.new.Goals as goal
 
-pub unwrap-requires : goal.unwrap-requires
-unwrap-requires c =
-    c.push.ensures.room.1
-    (omega (
-      arith,
-      c.loop-place-test.true,
-      length-take c.count.result c.args.starts,
-      c.count.ensures.few,
-      ap length c.loop-place.invariant ∙ length-map-range_with_len _ 0 c.loop-place.place,
-    ))
-
-pub loop-place-preserved : goal.loop-place-preserved
-loop-place-preserved c =
-    given_more c.args.starts c.args.order.now c.loop-place.place _ _ _ c.loop-place.invariant
-    (get_or-take c.count.result c.args.starts c.loop-place.place 0 (omega (arith, c.loop-place-test.true, length-take c.count.result c.args.starts)))
-    (answered_below _ _ _ _ (sym c.unwrap-level.ensures ∙ c.level.ensures)).1 (search rules)
+pub returns : goal.returns
+returns c =
+    let order = c.args.order.now in
+    let of : ℕ → Assignment = λ place. record { start = start_of c.args.starts place; level = level_of order place } in
+    let made = collected _ _ of (λ place r f' k. search rules) c.unwrap.ensures c.from_iter.ensures.all c.map-given.ensures.runs in
+    let counts = subst (λ range. ItemsCountUp made.0 range.start range.end) made.1 (range_runs made.0 made.0.seen) in
+    made.3 ∙ ap (map of) (counted_up made.0 c.count.result made.2 counts) ∙ ap (given_to c.args.starts order) c.count.ensures.value

@@ -1,10 +1,8 @@
-use Rattle.std.proofs.Common.{[], ◌∷◌, ◌++◌, refl, ap, ◌∙◌, arith}
-use Rattle.runner.specs.Processor.{levels_of}
+use Rattle.std.proofs.Common.{refl, rules, arith}
 use Rattle.runner.proofs.Adding.{added, told_as, same_levels}
 use Rattle.runner.proofs.processor.Processor.add.Goals as goal
 
 pub returns-clause-after : goal.returns-clause-after
 returns-clause-after c =
     told_as c.push.result c.map_err.result c.map_err.ensures.variant c.push.ensures.ok c.push.ensures.full
-    (λ push. added c.args.self.now _ c.args.task.figures c.args.start (omega arith) refl (push ∙ ap (λ level. levels_of c.args.self.now ++ level ∷ []) c.of.ensures.value))
-    (λ full. same_levels _ _ refl full)
+    (λ push. added c.args.self.now _ c.args.task.figures c.args.start (omega arith) refl (search rules)) (same_levels _ _ refl)

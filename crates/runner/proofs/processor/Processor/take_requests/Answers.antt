@@ -9,12 +9,9 @@ use Rattle.runner.proofs.processor.Processor.take_requests.Goals.{After-update}
 levels : (c : After-update) → items_of c.update.new.self ≡ map (requested_at c.args.self.now.tick) (items_of c.args.self.now.levels)
 levels c = map_from_zip _ (requested_at c.args.self.now.tick) (λ x y post. search rules) _ _ c.update.ensures
 
-pub invariant_of-self : goal.invariant_of-self
-invariant_of-self c =
-    record {
-      bounded = c.args.self.now.bounded;
-      kept = subst (All (Kept c.args.self.now.tick)) (sym (levels c)) (all_kept c.args.self.now.tick _ c.args.self.now.bounded c.args.self.now.kept);
-    }
+pub invariant_of-self-clause-kept : goal.invariant_of-self-clause-kept
+invariant_of-self-clause-kept c =
+    subst (All (Kept c.args.self.now.tick)) (sym (levels ((goal.at.invariant_of-self-clause-kept c).After-update))) (all_kept c.args.self.now.tick _ c.args.self.now.bounded c.args.self.now.kept)
 
 pub returns : goal.returns
 returns c = record { tick = refl; levels = levels ((goal.at.returns c).After-update) }

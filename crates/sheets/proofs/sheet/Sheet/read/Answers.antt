@@ -1,4 +1,4 @@
-use Rattle.std.proofs.Common.{◌<◌, ◌∙◌, arith}
+use Rattle.std.proofs.Common.{◌<◌, arith}
 use Rattle.std.proofs.ByRecursion.{All-from_get_or}
 use Rattle.std.proofs.lemmas.Result.{err_from_is_err_and}
 use Rattle.sheets.proofs.Bytes.{read_no_header, read_rows, rows_told}
@@ -14,7 +14,7 @@ returns c =
     let bytes = c.args.bytes.now in
     let header = c.in_ok-count.ensures in
     let parts = c.split_at.ensures in
-    read_rows bytes _ c.form.result (All-from_get_or (λ byte. byte < 256) bytes 0 (λ i inside. let fits = c.type_inv.bytes i in omega arith))
+    read_rows bytes _ c.checked.result (All-from_get_or (λ byte. byte < 256) bytes 0 (λ i inside. let fits = c.type_inv.bytes i in omega arith))
     header.right
-    (c.as_slice.ensures.value ∙ rows_told bytes _ _ _ header parts.front parts.back _ c.in_ok-rows.ensures)
-    c.form.ensures.value
+    (rows_told bytes _ _ _ header parts.front parts.back _ c.read_rows.ensures)
+    c.checked.ensures

@@ -1,17 +1,15 @@
-use Rattle.std.proofs.Common.{◌≡◌, ◌≤◌, [], ◌∷◌, ◌++◌, length, arith, rules}
+use Rattle.std.proofs.Common.{◌≡◌, [], ◌∷◌, ◌++◌, arith, rules}
 use Rattle.std.proofs.lemmas.List.{take_rest, length-drop}
-use Rattle.std.proofs.lemmas.Result.{err_from_is_err_and}
 use Rattle.short_list.specs.Items.{items_of}
-use Rattle.periods.specs.Multiples.{most_tasks}
 use Rattle.sheets.specs.Bytes.{row_in}
 use Rattle.sheets.proofs.Bytes.{read_more, rows_left}
 use Rattle.sheets.proofs.sheet.read.read_rows.Goals as goal
 
-pub returns-in_err-push : goal.returns-in_err-push
-returns-in_err-push c =
-    let full : most_tasks ≤ length (items_of c.loop-tasks.rows) = search rules in
-    let exit = err_from_is_err_and c.from_residual.result c.from_residual.ensures.1 in
-    rw exit.1 (omega (arith, c.in-len7-up.len_at_least, rows_left _ _ _ _ _ _ _ c.loop-tasks.invariant.1))
+-- the rows made and at least one to come are no more than the list takes
+pub unwrap-requires : goal.unwrap-requires
+unwrap-requires c =
+    c.push.ensures.room.1
+    (omega (arith, c.requires.few, c.in-len7-up.len_at_least, rows_left _ _ _ _ _ _ _ c.loop-tasks.invariant.1))
 
 pub loop-tasks-preserved : goal.loop-tasks-preserved
 loop-tasks-preserved c =

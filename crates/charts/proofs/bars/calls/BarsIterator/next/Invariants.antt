@@ -7,4 +7,4 @@ abbrev pub invariant-loop-more : goal.invariant-loop-more
 invariant-loop-more l = (more : ℕ) × (l.length ≡ l.initial.length + more) × Went l.initial.self l.run.id more l.self
 
 abbrev pub decreases-loop-more : goal.decreases-loop-more
-decreases-loop-more l = l.self.to - l.self.processor.tick
+decreases-loop-more l = l.self.to - l.self.running.processor.tick

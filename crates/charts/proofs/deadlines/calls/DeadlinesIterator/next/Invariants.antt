@@ -7,4 +7,4 @@ abbrev pub invariant-loop-self : goal.invariant-loop-self
 invariant-loop-self l = Skipped l.initial.self l.self
 
 abbrev pub decreases-loop-self : goal.decreases-loop-self
-decreases-loop-self l = l.self.last + 1 - l.self.processor.tick
+decreases-loop-self l = l.self.last + 1 - l.self.running.processor.tick

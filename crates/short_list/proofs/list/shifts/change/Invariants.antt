@@ -1,5 +1,0 @@
-use Rattle.short_list.proofs.Changes.{ChangedBelow}
-use Rattle.short_list.proofs.list.shifts.change.Given as goal
-
-abbrev pub invariant-loop-item : goal.invariant-loop-item
-invariant-loop-item g l = ChangedBelow (λ x y. goal.F-post g l.by x y) l.initial.items l.items l.item-index
