@@ -57,10 +57,16 @@ impl Order {
         self.places.swap(first, second);
     }
 
-    // The places at the positions before this one.
+    // The places at the positions before this one. A loop: by a test of each of the eight places a search that finds no plan
+    // took a seventh to a third more instructions.
     pub(crate) fn earlier(&self, position: usize) -> Places
+        requires { position ≤ length (places_of self.now) }
         ensures { (place : ℕ) → place < length (places_of self.now) → has result place ≡ nat_lt (position_of self.now place) position }
     {
-        Places::from_fn(|place| self.position(place).is_some_and(|at| at < position))
+        let mut earlier = Places::none();
+        for place in &self.places[..position] {
+            earlier.add(*place);
+        }
+        earlier
     }
 }
