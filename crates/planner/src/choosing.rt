@@ -1,8 +1,7 @@
 // The search over the starts.
-ghost use Rattle.std.specs.Prelude.{◌≤◌, length, Ok};
+ghost use Rattle.std.specs.Prelude.{Ok};
 ghost use Rattle.periods.specs.Listed.{start_of};
 ghost use Rattle.periods.specs.Lists.{ListsChoices};
-ghost use Rattle.periods.specs.Multiples.{most_tasks};
 ghost use Rattle.tasks.specs.Cases.{Formed};
 ghost use Rattle.tasks.specs.Tables.{rows_of, figures_in, periods_held};
 ghost use Rattle.planner.specs.Plans.{Answered, PlanIfAny, Searched, timed};
@@ -51,8 +50,7 @@ fn search_among<J: Judge>(judge: &J, table: &Table, choices: &Choices) -> Option
 
 // The tasks of the table with these starts.
 fn case_of(table: &Table, starts: &[u16; MOST_TASKS]) -> Result<Case, Refusal>
-    ensures value { Formed (timed (rows_of table.now) (start_of starts.now)) result }
-    ensures few { length (rows_of table.now) ≤ most_tasks }
+    ensures { Formed (timed (rows_of table.now) (start_of starts.now)) result }
 {
     let timed = table.rows().iter().zip(starts).map(|(row, start)| Timed {
         figures: row.figures,

@@ -7,8 +7,8 @@ use Rattle.tasks.specs.Cases.{Formed}
 use Rattle.planner.proofs.Rows.{timed_pairs}
 use Rattle.planner.proofs.choosing.case_of.Goals as goal
 
-pub returns-clause-value : goal.returns-clause-value
-returns-clause-value c =
+pub returns : goal.returns
+returns c =
     let of : Row → ℕ → Timed = λ row start. record { figures = row.figures; start = start } in
     let starts = c.zip.ensures.second in
     let rows = c.iter.ensures.rest ∙ c.rows.ensures.value in

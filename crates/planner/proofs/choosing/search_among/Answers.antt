@@ -4,7 +4,7 @@ use Rattle.periods.specs.Lists.{listed_periods}
 use Rattle.periods.proofs.Starts.{one_listed_choice}
 use Rattle.tasks.specs.Cases.{timed_of}
 use Rattle.tasks.specs.Tables.{rows_of, figures_in, periods_held}
-use Rattle.tasks.proofs.Ordered.{fair_from_tidy}
+use Rattle.tasks.proofs.Ordered.{fair_from_tidy, few_rows}
 use Rattle.planner.specs.Plans.{timed}
 use Rattle.planner.proofs.Fairness.{table_fair}
 use Rattle.planner.proofs.Rows.{choice_forms, proper_periods}
@@ -16,7 +16,7 @@ pub unwrap-case-requires : goal.unwrap-case-requires
 unwrap-case-requires g c =
     let table = c.args.table.now in
     let (below, chosen) = rank_listed _ _ c.loop-rank.rank c.requires.1 c.unwrap-starts.result (sym c.unwrap-starts.ensures ∙ c.starts.ensures.value) in
-    let none = choice_forms (rows_of table) c.loop-rank.rank c.case_of.ensures.few (fair_from_tidy 1 (rows_of table) table.tidy)
+    let none = choice_forms (rows_of table) c.loop-rank.rank (few_rows table) (fair_from_tidy 1 (rows_of table) table.tidy)
     c.requires.0 below c.unwrap-starts.result chosen in
     search rules
 
