@@ -14,10 +14,11 @@ use Rattle.periods.specs.Multiples.{most_tasks}
 use Rattle.tasks.specs.Figures.{Fair}
 use Rattle.sheets.specs.Bytes.{two_bytes, sheet_length, task_entry, plan_entry, encoded, row_in, rows_in, entries_in, header_fault, sheet_fault, RightHeader}
 use Rattle.sheets.specs.Checks.{Sound, timed_in, rows_fault}
-use Rattle.sheets.specs.Sheets.{Gives, ReadsEncoded, ReadsBack, overwritten}
+use Rattle.sheets.specs.Sheets.{Gives, ReadsEncoded, ReadsBack, ShowsEarly, overwritten}
 use Rattle.sheets.specs.declared.fault.SheetFault.{SheetFault}
 use Rattle.sheets.specs.declared.row.SheetRow.{SheetRow}
 use Rattle.sheets.specs.declared.sheet.Sheet.{Sheet}
+use Rattle.sheets.proofs.Long.{shows_early}
 use Rattle.sheets.proofs.Soundness.{sound_from_none, none_from_sound, count_from_sound}
 
 -- a number in two bytes
@@ -220,13 +221,14 @@ module _ (bytes tasks plans : List ℕ) (count : ℕ) (header : RightHeader byte
 -- what is read
 module _ (bytes : List ℕ) where
   abbrev pub Read : Result Sheet SheetFault → Type 0
-  Read r = record { value : Gives (sheet_fault bytes) (entries_in bytes) r; format : ReadsEncoded bytes r }
+  Read r = record { value : Gives (sheet_fault bytes) (entries_in bytes) r; format : ReadsEncoded bytes r; early : ShowsEarly bytes }
 
   refused : (fault : SheetFault) → sheet_fault bytes ≡ Some fault → Read (Err fault)
   refused fault is = record {
     value = is;
     format = λ rows sound same.
         let none = ap sheet_fault same ∙ (reads_back rows sound).0 in absurd (grind arith);
+    early = shows_early bytes;
   }
 
   pub read_no_header : (fault : SheetFault) → header_fault bytes ≡ Some fault → Read (Err fault)
@@ -247,6 +249,7 @@ module _ (bytes : List ℕ) where
           subst Sound (sym same) (sound_from_none rows none),
           sym (encoded-entries_in bytes small right) ∙ ap encoded (sym (same ∙ is)),
         );
+        early = shows_early bytes;
       }
       go (Err fault) is-fault = refused fault (said ∙ is-fault)
 

@@ -1,4 +1,5 @@
 pub mod Bytes
 pub mod Entries
 pub mod Held
+pub mod Long
 pub mod Soundness

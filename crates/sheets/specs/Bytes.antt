@@ -17,6 +17,10 @@ two_bytes number = number / 256 % 256 ∷ number % 256 ∷ []
 abbrev pub sheet_length : ℕ → ℕ
 sheet_length count = 4 + 10 * count
 
+-- the bytes of the longest sheet
+abbrev pub longest_sheet : ℕ
+longest_sheet = sheet_length most_tasks
+
 -- a task: its id and its figures
 abbrev pub task_entry : SheetRow → List ℕ
 task_entry row = row.id ∷ two_bytes row.figures.work ++ two_bytes row.figures.period ++ two_bytes row.figures.deadline

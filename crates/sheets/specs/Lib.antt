@@ -1,5 +1,4 @@
 pub mod Bytes
 pub mod Checks
-pub mod Example
 pub mod Faults
 pub mod Sheets

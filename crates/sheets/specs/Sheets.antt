@@ -1,7 +1,7 @@
 -- A sheet, and what reading and writing one promise.
-use Rattle.std.specs.Prelude.{◌≡◌, ℕ, cond, List, ◌++◌, length, drop, Some, None, Ok, Err, Option, Result, ◌≢◌, nat_lt}
+use Rattle.std.specs.Prelude.{◌≡◌, ℕ, ◌+◌, cond, List, ◌++◌, length, take, drop, Some, None, Ok, Err, Option, Result, ◌≢◌, nat_lt}
 use Rattle.short_list.specs.Items.{items_of}
-use Rattle.sheets.specs.Bytes.{sheet_length, encoded, entries_in, sheet_fault}
+use Rattle.sheets.specs.Bytes.{sheet_length, longest_sheet, encoded, entries_in, sheet_fault}
 use Rattle.sheets.specs.Checks.{Sound}
 use Rattle.sheets.specs.declared.fault.SheetFault.{SheetFault}
 use Rattle.sheets.specs.declared.row.SheetRow.{SheetRow}
@@ -20,6 +20,10 @@ Gives fault rows (Err reason) = fault ≡ Some reason
 abbrev pub ReadsEncoded : List ℕ → Result Sheet SheetFault → Type 0
 ReadsEncoded bytes (Ok sheet) = Sound (rows_of sheet) × (bytes ≡ encoded (rows_of sheet))
 ReadsEncoded bytes (Err fault) = (rows : List SheetRow) → Sound rows → bytes ≢ encoded rows
+
+-- what is wrong with some bytes shows within the longest sheet and one byte more
+abbrev pub ShowsEarly : List ℕ → Type 0
+ShowsEarly bytes = sheet_fault (take (longest_sheet + 1) bytes) ≡ sheet_fault bytes
 
 -- what is written is read again as the same rows
 abbrev pub ReadsBack : List SheetRow → Type 0

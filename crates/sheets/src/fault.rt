@@ -6,31 +6,44 @@ ghost use Rattle.sheets.specs.declared.fault.SheetFault.TheVariants.{Entry, Wron
 
 use refusals::TaskFault;
 use short_list::Full;
+use std::fmt;
+use thiserror::Error;
 
 // What can be wrong with one entry.
-#[derive(Clone, Copy, PartialEq, Eq, Debug)]
+#[derive(Clone, Copy, PartialEq, Eq, Debug, Error)]
 pub enum EntryFault {
+    #[error("an id is 0 or not above the one before")]
     UnsortedId,
+    #[error(transparent)]
     Figures(TaskFault),
+    #[error("a start is not below its period")]
     LateStart,
+    #[error("a level is 0, above the number of tasks or taken")]
     WrongLevel,
 }
 
 // The first wrong entry: its place, counted from 1, and what is wrong with it.
-#[derive(Clone, Copy, PartialEq, Eq, Debug)]
+#[derive(Clone, Copy, PartialEq, Eq, Debug, Error)]
+#[error("{fault}")]
 pub struct WrongEntry {
     pub place: usize,
     pub fault: EntryFault,
 }
 
 // What can be wrong with a sheet, in the order of the numbers; an entry has the numbers between.
-#[derive(Clone, Copy, PartialEq, Eq, Debug)]
+#[derive(Clone, Copy, PartialEq, Eq, Debug, Error)]
 pub enum SheetFault {
+    #[error("a sheet has at least four bytes")]
     NoHeader,
+    #[error("a sheet has one to eight tasks")]
     WrongCount,
+    #[error("the length is not that of so many tasks, or not that of the bytes")]
     WrongLength,
+    #[error(transparent)]
     Entry(WrongEntry),
+    #[error("the common period is above 10,000")]
     LongCommonPeriod,
+    #[error("the judge says no at a level")]
     RefusedLevel(u8),
 }
 
@@ -41,6 +54,17 @@ pub enum Layer {
     Entries,
     Order,
     Judge,
+}
+
+impl fmt::Display for Layer {
+    fn fmt<W: fmt::Write>(&self, f: &mut fmt::Formatter<W>) -> fmt::Result {
+        f.write_str(match self {
+            Layer::Bytes => "bytes",
+            Layer::Entries => "entries",
+            Layer::Order => "order",
+            Layer::Judge => "judge",
+        })
+    }
 }
 
 impl EntryFault {

@@ -10,4 +10,4 @@ mod tests;
 
 pub use fault::{EntryFault, Layer, SheetFault, WrongEntry};
 pub use row::SheetRow;
-pub use sheet::Sheet;
+pub use sheet::{LONGEST_SHEET, Sheet};

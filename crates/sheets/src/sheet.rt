@@ -12,6 +12,8 @@ mod read;
 mod sizes;
 mod write;
 
+pub use sizes::LONGEST_SHEET;
+
 // Tasks with their starts and levels, in rising order of their ids, that pass every check.
 #[derive(Clone, Copy)]
 pub struct Sheet {

@@ -1,7 +1,3 @@
-ghost use Rattle.std.specs.Prelude.{◌≡◌};
-ghost use Rattle.sheets.specs.Bytes.{encoded};
-ghost use Rattle.sheets.specs.Example.{example_rows, example_bytes};
-
 use crate::{EntryFault, Layer, Sheet, SheetFault, SheetRow, WrongEntry};
 use refusals::{Refusal, TaskFault};
 use std::test::Fail;
@@ -12,9 +8,7 @@ const EXAMPLE: [u8; 34] = [
     2, 0, 10, 3,
 ];
 
-fn example() -> Result<Sheet, SheetFault>
-    ensures { encoded example_rows ≡ example_bytes }
-{
+fn example() -> Result<Sheet, SheetFault> {
     Sheet::form(&[
         SheetRow::new(1, Figures::new(3, 8, 8), 0, 1),
         SheetRow::new(2, Figures::new(6, 12, 12), 0, 2),

@@ -3,7 +3,7 @@ ghost use Rattle.std.specs.Prelude.{◌≡◌, ◌*◌, ◌/◌, ◌≤◌, leng
 ghost use Rattle.short_list.specs.Items.{items_of};
 ghost use Rattle.periods.specs.Multiples.{most_tasks};
 ghost use Rattle.sheets.specs.Bytes.{rows_in, entries_in, header_fault, sheet_fault, RightHeader};
-ghost use Rattle.sheets.specs.Sheets.{Gives, ReadsEncoded};
+ghost use Rattle.sheets.specs.Sheets.{Gives, ReadsEncoded, ShowsEarly};
 
 use crate::fault::SheetFault;
 use crate::row::SheetRow;
@@ -18,6 +18,7 @@ impl Sheet {
     pub fn read(bytes: &[u8]) -> Result<Sheet, SheetFault>
         ensures value { Gives (sheet_fault bytes.now) (entries_in bytes.now) result }
         ensures format { ReadsEncoded bytes.now result }
+        ensures early { ShowsEarly bytes.now }
     {
         let count = read_header(bytes)?;
         let (tasks, plans) = bytes[HEADER..].split_at(TASK_ENTRY * count);
