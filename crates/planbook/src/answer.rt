@@ -1,42 +1,53 @@
-// Where a call is carried out, and what it answers where it is accepted.
-use crate::call::Call;
-use crate::failure::Failure;
-use judges::Judge;
-use planner::{Assignment, plan_for};
-use std::alloc::{AllocError, Global};
+// What a call answers where it is accepted.
+use entries::{Bar, LateRequest};
 use std::fmt;
-use tasks::{Figures, Table};
+use tasks::Figures;
 
 #[derive(Drop)]
 pub enum Answer {
     Done,
     Number(u64),
+    Place(Option<usize>),
+    Truth(bool),
     Ids(Vec<u8>),
     Task(Figures),
     Plan(Vec<Planned>),
+    Reckoned(Option<u32>),
+    NoMeasure,
+    Bars(Vec<Bar>),
+    Late(Vec<LateRequest>),
+    Sheet(Vec<u8>),
 }
 
 // What a plan gives the task with this id.
 #[derive(Clone, Copy)]
 pub struct Planned {
-    id: u8,
-    given: Assignment,
+    pub id: u8,
+    pub start: u16,
+    pub level: u8,
 }
 
 impl fmt::Display for Planned {
     fn fmt<W: fmt::Write>(&self, f: &mut fmt::Formatter<W>) -> fmt::Result {
-        let Planned { id, given } = self;
-        let Assignment { start, level } = given;
+        let Planned { id, start, level } = self;
         write!(f, "{id}:{start}:{level}")
     }
 }
 
 impl fmt::Display for Answer {
     fn fmt<W: fmt::Write>(&self, f: &mut fmt::Formatter<W>) -> fmt::Result {
+        if let Answer::NoMeasure = self {
+            return f.write_str("no measure");
+        }
         f.write_str("ok")?;
         match self {
-            Answer::Done => Ok(()),
+            Answer::Done | Answer::NoMeasure => Ok(()),
             Answer::Number(number) => write!(f, " {number}"),
+            Answer::Place(Some(place)) => write!(f, " {place}"),
+            Answer::Reckoned(Some(response)) => write!(f, " {response}"),
+            Answer::Place(None) | Answer::Reckoned(None) => f.write_str(" none"),
+            Answer::Truth(true) => f.write_str(" yes"),
+            Answer::Truth(false) => f.write_str(" no"),
             Answer::Ids(ids) => ids.iter().try_for_each(|id| write!(f, " {id}")),
             Answer::Task(figures) => {
                 let Figures {
@@ -47,73 +58,23 @@ impl fmt::Display for Answer {
                 write!(f, " {work} {period} {deadline}")
             }
             Answer::Plan(tasks) => tasks.iter().try_for_each(|task| write!(f, " {task}")),
+            Answer::Bars(bars) => bars.iter().try_for_each(|bar| write!(
+                f,
+                " {}:{}:{}",
+                bar.first, bar.length, bar.id
+            )),
+            Answer::Late(late) => late.iter().try_for_each(|late| write!(
+                f,
+                " {}:{}:{}",
+                late.id, late.request, late.deadline
+            )),
+            Answer::Sheet(bytes) => bytes.chunks(2).try_for_each(|group| write_group(f, group)),
         }
     }
 }
 
-// Where a script is answered: the table that its calls change, and the judge that plans it.
-#[derive(Drop)]
-pub struct Desk<'a, J> {
-    pub heap: Global,
-    pub judge: &'a J,
-    pub table: Table,
-}
-
-impl<J: Judge> Desk<'_, J> {
-    // What a line is answered; a line without words is answered by nothing.
-    pub fn respond(&mut self, line: &[u8]) -> Result<Option<Answer>, Failure> {
-        let words = script::words(self.heap, line)?;
-        Call::read(words.as_slice())?
-            .map(|call| self.carry_out(call))
-            .transpose()
-    }
-
-    // Carries a call out on the table; the library's own answers and refusals are handed on.
-    fn carry_out(&mut self, call: Call) -> Result<Answer, Failure> {
-        let table = &mut self.table;
-        let answer = match call {
-            Call::Enter { id, figures } => {
-                table.enter(id, figures)?;
-                Answer::Done
-            }
-            Call::Amend { id, figures } => {
-                table.amend(id, figures)?;
-                Answer::Done
-            }
-            Call::Strike { id } => {
-                table.strike(id)?;
-                Answer::Done
-            }
-            Call::Count => Answer::Number(table.count() as u64),
-            Call::Ids => Answer::Ids(self.ids()?),
-            Call::Period => Answer::Number(u64::from(table.common_period()?)),
-            Call::Demand => Answer::Number(u64::from(table.load()?)),
-            Call::Choices => Answer::Number(u64::from(table.choices()?.count())),
-            Call::Task { id } => Answer::Task(table.figures(id)?),
-            Call::Plan => Answer::Plan(self.planned()?),
-        };
-        Ok(answer)
-    }
-
-    // The ids of the tasks that stand, in rising order.
-    fn ids(&self) -> Result<Vec<u8>, AllocError> {
-        self.table
-            .rows()
-            .iter()
-            .map(|row| row.id)
-            .collect(self.heap)
-    }
-
-    // A plan of the table, by rising id.
-    fn planned(&self) -> Result<Vec<Planned>, Failure> {
-        let plan = plan_for(self.judge, &self.table)?;
-        let tasks = self.table.rows().iter().zip(plan.assignments());
-        let planned = tasks
-            .map(|(row, given)| Planned {
-                id: row.id,
-                given: *given,
-            })
-            .collect(self.heap)?;
-        Ok(planned)
-    }
+// A group of bytes in hexadecimal, behind a blank.
+fn write_group<W: fmt::Write>(f: &mut fmt::Formatter<W>, group: &[u8]) -> fmt::Result {
+    f.write_str(" ")?;
+    group.iter().try_for_each(|byte| write!(f, "{byte:02X}"))
 }

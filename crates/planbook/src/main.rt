@@ -3,21 +3,24 @@
 
 mod answer;
 mod call;
+mod desk;
 mod failure;
+mod measure;
 mod pile;
+mod reading;
 
-use answer::Desk;
-use failure::{Failure, tell_refusal};
+use desk::Desk;
+use failure::{Failure, tell_fault, tell_refusal};
 use judges::Judge;
+use measure::Measure;
 use pile::open;
 use std::io;
 use std::io::{BufRead, BufReader};
-use tasks::Table;
 
 // Writes what the line with this number is answered.
-fn reply<J: Judge>(
+fn reply<J: Judge, M: Measure<J>>(
     rt: &HostRuntime,
-    desk: &mut Desk<'_, J>,
+    desk: &mut Desk<'_, J, M>,
     number: u64,
     line: &[u8],
 ) -> io::Result<()> {
@@ -25,19 +28,16 @@ fn reply<J: Judge>(
         Ok(Some(answer)) => println!(rt; "{answer}"),
         Ok(None) => Ok(()),
         Err(Failure::Refused(refusal)) => tell_refusal(rt, refusal),
+        Err(Failure::Faulty(fault)) => tell_fault(rt, fault),
         Err(fault) => println!(rt; "error line {number}: {fault}"),
     }
 }
 
 // Reads the script to its end, and answers each line before the next is read.
-pub fn run<J: Judge + Drop>(rt: &HostRuntime, judge: &J) -> io::Result<()> {
+pub fn run<J: Judge + Drop, M: Measure<J>>(rt: &HostRuntime, judge: J) -> io::Result<()> {
     let mut script = BufReader::new(rt.alloc(), rt.stdin())?;
     let mut line = Vec::new(rt.alloc());
-    let mut desk = Desk {
-        heap: rt.alloc(),
-        judge,
-        table: Table::new(),
-    };
+    let mut desk: Desk<'_, J, M> = Desk::open(rt, judge);
     // A count here: it is the number of the line itself, and a reader need not end.
     for number in 1..u64::MAX {
         line.clear();

@@ -1,8 +1,9 @@
 // The judge that the command line names: screens and margins over the tick judge or the worst-start judge.
-use crate::call::number;
 use crate::failure::tell_refusal;
+use crate::measure::{Measures, OnlyRules};
+use crate::reading::number;
 use crate::run;
-use judges::{Judge, Margin, Screen, Tick, WorstStart};
+use judges::{Judge, Margin, MeasuringJudge, Screen, Tick, WorstStart};
 use std::{env, io};
 
 // What stands over a judge.
@@ -12,9 +13,11 @@ enum Over {
     Margin(u16),
 }
 
-// What is done with a judge, whichever it is.
+// What is done with a judge, whichever it is, and with one that measures.
 trait Use {
     fn with<J: Judge + Drop>(self, rt: &HostRuntime, judge: J) -> io::Result<()>;
+
+    fn with_measuring<J: MeasuringJudge + Drop>(self, rt: &HostRuntime, judge: J) -> io::Result<()>;
 }
 
 // Runs the script on standard input over the judge.
@@ -23,7 +26,15 @@ struct Run;
 
 impl Use for Run {
     fn with<J: Judge + Drop>(self, rt: &HostRuntime, judge: J) -> io::Result<()> {
-        run(rt, &judge)
+        run::<J, OnlyRules>(rt, judge)
+    }
+
+    fn with_measuring<J: MeasuringJudge + Drop>(
+        self,
+        rt: &HostRuntime,
+        judge: J,
+    ) -> io::Result<()> {
+        run::<J, Measures>(rt, judge)
     }
 }
 
@@ -46,6 +57,23 @@ impl<U: Use + Drop> Use for Put<U> {
             },
         }
     }
+
+    // A margin measures where the judge below it does, and a screen never does.
+    fn with_measuring<J: MeasuringJudge + Drop>(
+        self,
+        rt: &HostRuntime,
+        judge: J,
+    ) -> io::Result<()> {
+        let Put { over, then } = self;
+        match over {
+            None => then.with_measuring(rt, judge),
+            Some(Over::Screen) => then.with(rt, Screen { judge }),
+            Some(Over::Margin(percent)) => match Margin::new(percent, judge) {
+                Ok(judge) => then.with_measuring(rt, judge),
+                Err(refusal) => tell_refusal(rt, refusal),
+            },
+        }
+    }
 }
 
 // Runs the script on standard input over the judge of the command line; without words that is `tick`.
@@ -56,7 +84,7 @@ pub fn open(rt: &HostRuntime) -> io::Result<()> {
         .map(|word| word.as_bytes())
         .collect(rt.alloc())?;
     if words.is_empty() {
-        return run(rt, &Tick);
+        return run::<Tick, Measures>(rt, Tick);
     }
     let (outer, words) = first_over(words.as_slice());
     let (inner, words) = first_over(words);
@@ -68,8 +96,8 @@ pub fn open(rt: &HostRuntime) -> io::Result<()> {
         },
     };
     match words {
-        [b"tick"] => pile.with(rt, Tick),
-        [b"worst-start"] => pile.with(rt, WorstStart),
+        [b"tick"] => pile.with_measuring(rt, Tick),
+        [b"worst-start"] => pile.with_measuring(rt, WorstStart),
         _ => println!(rt;
             "error judge: tick, worst-start, screen JUDGE or margin M JUDGE, two over another at most"
         ),
