@@ -26,6 +26,16 @@ fn polisher() -> Result<Book<Tick>, Refusal> {
     )
 }
 
+// Figures that break each rule, and the later ones too where they can.
+fn unfair() -> [(Figures, TaskFault); 4] {
+    [
+        (Figures::new(0, 2_001, 2_002), TaskFault::NoWork),
+        (Figures::new(9, 2_001, 2_002), TaskFault::LongPeriod),
+        (Figures::new(9, 4, 5), TaskFault::LateDeadline),
+        (Figures::new(5, 4, 4), TaskFault::LongWork),
+    ]
+}
+
 fn faulty(fault: TaskFault) -> Result<(), Refusal> {
     Err(Refusal::Figures(fault))
 }
@@ -39,22 +49,9 @@ fn enter_refuses_by_the_smallest_number(rt: HostRuntime) -> Result<(), Fail> {
         book.enter(7, Figures::new(0, 0, 0)),
         Err(Refusal::StandingId)
     );
-    assert_eq!(rt;
-        book.enter(8, Figures::new(0, 2_001, 2_002)),
-        faulty(TaskFault::NoWork)
-    );
-    assert_eq!(rt;
-        book.enter(8, Figures::new(9, 2_001, 2_002)),
-        faulty(TaskFault::LongPeriod)
-    );
-    assert_eq!(rt;
-        book.enter(8, Figures::new(9, 4, 5)),
-        faulty(TaskFault::LateDeadline)
-    );
-    assert_eq!(rt;
-        book.enter(8, Figures::new(5, 4, 4)),
-        faulty(TaskFault::LongWork)
-    );
+    for (figures, fault) in unfair() {
+        assert_eq!(rt; book.enter(8, figures), faulty(fault));
+    }
     assert_eq!(rt; book.enter(8, good), Ok(()));
     assert_eq!(rt;
         book.enter(9, Figures::new(5, 4, 4)),
@@ -74,10 +71,9 @@ fn amend_and_strike_refuse_by_the_smallest_number(rt: HostRuntime) -> Result<(),
         book.amend(4, Figures::new(0, 0, 0)),
         Err(Refusal::UnknownId)
     );
-    assert_eq!(rt;
-        book.amend(3, Figures::new(0, 2_001, 0)),
-        faulty(TaskFault::NoWork)
-    );
+    for (figures, fault) in unfair() {
+        assert_eq!(rt; book.amend(3, figures), faulty(fault));
+    }
     assert_eq!(rt; book.strike(0), Err(Refusal::ZeroId));
     assert_eq!(rt; book.strike(4), Err(Refusal::UnknownId));
     assert_eq!(rt; book.table().load(), Ok(23));
