@@ -14,7 +14,7 @@ use Rattle.sheets.specs.declared.row.SheetRow.{SheetRow}
 use Rattle.book.specs.Books.{rows_in, plan_in, figures_in}
 use Rattle.book.specs.Plans.{Planned}
 
--- a call that may be refused, and that tells nothing besides
+-- what a call answers that may be refused, and tells nothing besides
 abbrev pub Done : Type 0
 Done = Result (Unit {0}) Refusal
 
@@ -57,7 +57,7 @@ module _ {J : Type 0} where
     pub stands : plan_in after ≡ Some plan
     pub planned : Planned M plan
 
-  -- a plan stands, or there is none, and the book is left as it was
+  -- a plan is found and stands; or it is said why there is none, and the book is left as it was, with a plan that stood before
   abbrev pub PlanSought : (J → Meaning) → Book J → Done → Book J → Type 0
   PlanSought M before (Ok _) after = Plans (M before.judge) before after
   PlanSought M before (Err refusal) after = Unplanned (M before.judge) (figures_in before) refusal × (after ≡ before)
