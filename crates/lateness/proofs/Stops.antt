@@ -1,5 +1,6 @@
 -- A level while a processor runs on.
-use Rattle.std.proofs.Common.{◌≡◌, ℕ, zero, suc, ◌+◌, ◌-◌, ◌<◌, ◌≤◌, true, false, ◌⊎◌, Some, None, Option, sym, refl, ap, ◌∙◌, subst, inl, inr, add-zero, add-suc, arith}
+use Rattle.std.proofs.Common.{◌≡◌, ℕ, zero, suc, ◌+◌, ◌-◌, ◌<◌, ◌≤◌, ◌==◌, true, false, ◌⊎◌, Some, None, Option, sym, refl, ap, ◌∙◌, subst, inl, inr, add-zero, add-suc, arith}
+use Rattle.std.specs.Option.{option_eq}
 use Rattle.std.proofs.lemmas.Bool.Decides.{nat_tests}
 use Rattle.std.proofs.lemmas.Bool.{cases_lt, cases_order}
 use Rattle.timeline.specs.Processor.{Demands, ready, runs, done}
@@ -109,3 +110,12 @@ module _ (p₀ : Processor) (level : ℕ) (last : Option ℕ) (p q : Processor) 
   pub ran_other : (span.runs ≡ Some level → ⊥) → RanOn p₀ level last q
   ran_other other =
       goes_on last (λ D s. stopped_before D level p₀.tick p q end span ran (so_far.stands D s) last other (so_far.stopped D s))
+
+-- a test for the level that ran
+pub is_level : (chosen : Option ℕ) (level : ℕ) → true ≡ option_eq (λ a b. a == b) chosen (Some level) → chosen ≡ Some level
+is_level (Some x) level same = let e : x ≡ level = grind (arith, nat_tests, same) in ap Some e
+is_level None level same = absurd (let z : ◌≡◌ {A = ℕ} 0 1 = cc in omega arith)
+
+pub not_level : (chosen : Option ℕ) (level : ℕ) → false ≡ option_eq (λ a b. a == b) chosen (Some level) → chosen ≡ Some level → ⊥
+not_level (Some x) level other e = let same : x ≡ level = cc in grind (arith, nat_tests, other, same)
+not_level None level other e = let z : ◌≡◌ {A = ℕ} 0 1 = cc in omega arith

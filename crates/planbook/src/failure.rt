@@ -23,7 +23,7 @@ pub enum LineFault {
 
 // Why a line has another answer than `ok`: the library refuses the call or a sheet, or there is a fault in the line, or with
 // a file, or no room.
-#[derive(Debug, Drop, Error)]
+#[derive(Clone, Copy, Debug, Error)]
 pub enum Failure {
     #[error(transparent)]
     Refused(#[from] Refusal),

@@ -75,6 +75,24 @@ module _ (M : Meaning) (lawful : Lawful M) (tasks : List Figures) (fair : AllFai
       lawful.fewer tasks starts judged above less fair
       (λ q h. record { held = h.held; other = h.other; chosen = within q h.held h.other h.chosen }) ruling
 
+  -- If no place that is left passes at a position, no order passes: the one of them with the greatest level would.
+  pub none_passes :
+      (order : Order) (k : ℕ) → length (places_of order) ≡ length tasks → k < length tasks →
+      ((place : ℕ) → place < length tasks → position_of order place ≤ k → M tasks starts place (up_to order k) → ⊥) →
+      NonePasses M tasks starts
+  none_passes order k whole inside refused levels are passes =
+      let (m, within, most) = greatest (λ l. levels (place_at order l)) k in
+      let (held, at) = order.holds m (omega arith) in
+      refused (place_at order m) (omega arith) (omega arith)
+      (fewer_above (place_at order m) (λ q. ltb (levels q) (levels (place_at order m))) (up_to order k)
+      (λ q below differs left.
+      let to : position_of order q ≤ k = grind (arith, nat_tests) in
+      let least = most (position_of order q) to in
+      let back : levels (place_at order (position_of order q)) ≡ levels q = ap levels (order.has q (omega arith)).1 in
+      let apart : levels q ≡ levels (place_at order m) → ⊥ = λ same. differs (are.apart q (place_at order m) below (omega arith) same) in
+      grind (arith, nat_tests))
+      (passes (place_at order m) (omega arith)))
+
 -- the same in a case
 module _ (M : Meaning) (lawful : Lawful M) (case : Case) where
   abbrev tasks : List Figures
@@ -153,24 +171,6 @@ module _ (M : Meaning) (lawful : Lawful M) (case : Case) where
         ∙ (entry.has place (omega arith)).1 in
         let At : ℕ → Type 0 = λ p. M tasks starts p (up_to after k) in
         refused (subst At (sym here) (moved_above place k (omega arith) ruling))
-
-  -- If no place that is left passes at a position, no order passes: the one of them with the greatest level would.
-  pub none_passes :
-      (order : Order) (k : ℕ) → length (places_of order) ≡ length tasks → k < length tasks →
-      ((place : ℕ) → place < length tasks → position_of order place ≤ k → M tasks starts place (up_to order k) → ⊥) →
-      NonePasses M tasks starts
-  none_passes order k whole inside refused levels are passes =
-      let (m, within, most) = greatest (λ l. levels (place_at order l)) k in
-      let (held, at) = order.holds m (omega arith) in
-      refused (place_at order m) (omega arith) (omega arith)
-      (fewer_in_case (place_at order m) (λ q. ltb (levels q) (levels (place_at order m))) (up_to order k)
-      (λ q below differs left.
-      let to : position_of order q ≤ k = grind (arith, nat_tests) in
-      let least = most (position_of order q) to in
-      let back : levels (place_at order (position_of order q)) ≡ levels q = ap levels (order.has q (omega arith)).1 in
-      let apart : levels q ≡ levels (place_at order m) → ⊥ = λ same. differs (are.apart q (place_at order m) below (omega arith) same) in
-      grind (arith, nat_tests))
-      (passes (place_at order m) (omega arith)))
 
   -- all positions are filled: the order passes
   pub filled_passes : (order : Order) → FilledFrom M case order 0 → Passes M tasks starts (level_of order)

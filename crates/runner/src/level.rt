@@ -1,4 +1,5 @@
 ghost use Rattle.std.specs.Prelude.{◌≡◌, ◌-◌, ◌≤◌};
+ghost use Rattle.std.specs.Option.{unwrap_or};
 ghost use Rattle.runner.specs.Levels.{last_tick, Rated, Kept, requested_at, starting, units_spent};
 
 use tasks::Task;
@@ -27,20 +28,20 @@ impl Level {
         }
     }
 
-    // A request that falls at this tick brings its units.
-    pub fn at(self, tick: u32) -> Level
+    // With the units of a request that falls at this tick, if one does.
+    pub fn requested(self, tick: u32) -> Option<Level>
         requires kept { Kept tick self }
         requires bounded { tick ≤ last_tick }
-        ensures { result ≡ requested_at tick self }
+        ensures { unwrap_or result self ≡ requested_at tick self }
     {
         if self.next != tick {
-            return self;
+            return None;
         }
-        Level {
+        Some(Level {
             next: self.next + self.period,
             left: self.left + self.work,
             ..self
-        }
+        })
     }
 
     // Without units that have been spent.

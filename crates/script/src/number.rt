@@ -1,26 +1,29 @@
 // Numbers as a script writes them.
 ghost use Rattle.std.specs.Prelude.{◌≡◌};
-ghost use Rattle.std.specs.Char.{is_ascii_digit};
-ghost use Rattle.std.specs.List.{list_all};
 ghost use Rattle.script.specs.Numerals.{number_up_to};
+ghost use Rattle.script.specs.Reading.{with_digit};
 
-// Whether every byte is a digit.
-fn are_digits(word: &[u8]) -> bool
-    ensures { result ≡ list_all is_ascii_digit word.now }
+// The number that a digit more writes, where it is at most the limit.
+fn with_digit(limit: u32, number: u32, digit: u8) -> Option<u32>
+    ensures { result ≡ with_digit limit number digit }
 {
-    word.iter().all(|b| b.is_ascii_digit())
+    if !digit.is_ascii_digit() {
+        return None;
+    }
+    let more = u64::from(number) * 10 + u64::from(digit - b'0');
+    if more > u64::from(limit) {
+        return None;
+    }
+    Some(more as u32)
 }
 
-// The number that the word's digits write, where it is at most the limit.
+// The number that the word's digits write, where it is at most the limit. It reads no further than where this is decided.
 pub fn number_up_to(limit: u32, word: &[u8]) -> Option<u32>
     ensures { result ≡ number_up_to limit word.now }
 {
-    // A sign in front is no digit, though the parse takes a plus.
-    if !are_digits(word) {
+    if word.is_empty() {
         return None;
     }
-    let digits = str::from_utf8(word).unwrap();
-    u32::from_str_radix(digits, 10)
-        .ok()
-        .filter(|value| *value <= limit)
+    word.iter()
+        .try_fold(0, |number, digit| with_digit(limit, number, *digit))
 }

@@ -1,4 +1,5 @@
 pub mod Bytes
 pub mod Checks
+pub mod Example
 pub mod Faults
 pub mod Sheets

@@ -1,3 +1,7 @@
+ghost use Rattle.std.specs.Prelude.{◌≡◌};
+ghost use Rattle.sheets.specs.Bytes.{encoded};
+ghost use Rattle.sheets.specs.Example.{example_rows, example_bytes};
+
 use crate::{EntryFault, Layer, Sheet, SheetFault, SheetRow, WrongEntry};
 use refusals::{Refusal, TaskFault};
 use std::test::Fail;
@@ -8,7 +12,9 @@ const EXAMPLE: [u8; 34] = [
     2, 0, 10, 3,
 ];
 
-fn example() -> Result<Sheet, SheetFault> {
+fn example() -> Result<Sheet, SheetFault>
+    ensures { encoded example_rows ≡ example_bytes }
+{
     Sheet::form(&[
         SheetRow::new(1, Figures::new(3, 8, 8), 0, 1),
         SheetRow::new(2, Figures::new(6, 12, 12), 0, 2),

@@ -1,5 +1,5 @@
 -- A list whose items are changed one after another.
-use Rattle.std.proofs.Common.{◌≡◌, ℕ, ◌+◌, ◌<◌, ◌≤◌, ◌≢◌, List, get_or, set, take, length, sym, arith, get_or-set_other, subst}
+use Rattle.std.proofs.Common.{◌≡◌, ℕ, ◌+◌, ◌<◌, ◌≤◌, ◌≢◌, List, get_or, set, take, length, sym, ap, ◌∙◌, arith, get_or-set_other, subst}
 use Rattle.std.proofs.lemmas.List.{take_more_set}
 use Rattle.std.proofs.lemmas.List.Elements.{all_zip_more}
 use Rattle.std.specs.List.{AllZip}
@@ -22,3 +22,13 @@ changed_more {X} R old new place x y below long inside is step =
   where
     old-is : x ≡ get_or old place x
     old-is = let e = below.rest place x (omega arith) in cc
+
+-- an item is changed where a function gives something of it, or it stays
+module _ {X : Type 0} (R : X → X → Type 0) (old new items : List X) (place : ℕ) (x : X) (below : ChangedBelow R old new place)
+    (long : length new ≡ length old) (inside : place < length new) (is : x ≡ get_or new place x) where
+  pub changed_to : (y : X) → items ≡ set new place y → R x y → ChangedBelow R old items (place + 1)
+  changed_to y to step =
+      subst (λ list. ChangedBelow R old list (place + 1)) (sym to) (changed_more R old new place x y below long inside is step)
+
+  pub stays_as : items ≡ set new place (get_or new place x) → R x x → ChangedBelow R old items (place + 1)
+  stays_as same step = changed_to x (same ∙ sym (ap (set new place) is)) step

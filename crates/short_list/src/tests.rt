@@ -23,6 +23,17 @@ fn keeps_the_order_of_its_items(rt: HostRuntime) -> Result<(), Full> {
 }
 
 #[test]
+fn changes_items_of_which_something_is_given(rt: HostRuntime) -> Result<(), Full> {
+    let mut list = ShortList::<u8, 4>::new();
+    list.push(4)?;
+    list.push(9)?;
+    list.push(7)?;
+    list.update_some(|item| (item > 4).then_some(item + 1));
+    assert_eq!(rt; list.as_slice(), [4, 10, 8].as_slice());
+    Ok(())
+}
+
+#[test]
 fn takes_a_slice_that_is_short_enough(rt: HostRuntime) -> Result<(), Fail> {
     let list = ShortList::<u16, 2>::try_from([1, 2].as_slice());
     assert_eq!(rt; list?.as_slice(), [1, 2].as_slice());

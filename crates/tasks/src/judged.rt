@@ -5,8 +5,8 @@ ghost use Rattle.tasks.specs.Places.{has};
 use crate::case::Case;
 use crate::places::Places;
 
-// The task at a place of a case, below the tasks at the places above it. The place itself counts as not above, and so do
-// places without a task.
+// The task at a place of a case, below the tasks at the places above it. The place itself counts as not above; a place
+// without a task may be among them, and has nothing to bring.
 #[derive(Clone, Copy)]
 pub struct Judged<'a> {
     pub case: &'a Case,

@@ -67,12 +67,12 @@ impl Processor {
         while self.advance(until).is_some() {}
     }
 
-    // The requests that fall at this tick bring their units.
+    // The requests that fall at this tick bring their units. Most levels stay, and are not written.
     fn take_requests(&mut self)
         ensures { RequestsTaken self.old self.new }
     {
         let tick = self.tick;
-        self.levels.update(|level| level.at(tick));
+        self.levels.update_some(|level| level.requested(tick));
     }
 
     // The highest level that has a unit.

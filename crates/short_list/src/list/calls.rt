@@ -1,7 +1,8 @@
-ghost use Rattle.std.specs.Prelude.{◌≡◌, ◌<◌, ◌≤◌, ◌&&◌, ◌↔◌, [], ◌∷◌, ◌++◌, length, cond, nat_lt, IsOk, OnOk, OnErr, IfOk, MatchResult, slice_get, slice_set, swap};
+ghost use Rattle.std.specs.Prelude.{◌≡◌, ◌<◌, ◌≤◌, ◌&&◌, ◌↔◌, [], ◌∷◌, ◌++◌, length, cond, nat_lt, Option, IsOk, OnOk, OnErr, IfOk, MatchResult, slice_get, slice_set, swap};
 ghost use Rattle.std.specs.Iterator.{IsFinite, size};
 ghost use Rattle.std.specs.Iterator.Runs.{SomeRun, WholeRun};
 ghost use Rattle.std.specs.List.{All, AllZip, insert, remove};
+ghost use Rattle.std.specs.Option.{unwrap_or};
 ghost use Rattle.short_list.specs.Items.{items_of, with_swapped, Swapped};
 
 use crate::list::shifts::{last_to, take_out};
@@ -110,6 +111,18 @@ impl<T: Copy, const N: usize> ShortList<T, N> {
     {
         for item in self.slots[..self.len].iter_mut() {
             *item = by(*item);
+        }
+    }
+
+    // The same with a function that gives something of some items only: the others stay, and are not written.
+    pub fn update_some<F: Fn(T) -> Option<T>>(&mut self, by: F)
+        requires { All (F.pre by) (items_of self.old) }
+        ensures { AllZip (λ old new. (given : Option T) × F.post by old given × (new ≡ unwrap_or given old)) (items_of self.old) (items_of self.new) }
+    {
+        for slot in self.slots[..self.len].iter_mut() {
+            if let Some(given) = by(*slot) {
+                *slot = given;
+            }
         }
     }
 }

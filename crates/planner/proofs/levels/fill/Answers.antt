@@ -1,6 +1,8 @@
 use Rattle.std.proofs.Common.{ℕ, ◌-◌, sym, subst, inl, inr, arith, rules}
 use Rattle.std.proofs.lemmas.Bool.{cases_eq}
+use Rattle.judges.specs.Meaning.{tasks_of, starts_of}
 use Rattle.planner.specs.Filling.{PassesAt}
+use Rattle.planner.proofs.Fairness.{case_fair}
 use Rattle.planner.proofs.Filling.{fill_kept, fill_refused, none_passes}
 use Rattle.planner.proofs.levels.fill.Goals as goal
 
@@ -39,6 +41,7 @@ loop-place-preserved-then-tried-position g c =
 pub returns : goal.returns
 returns g c =
     let judge = c.args.judge.now in
-    none_passes (g.J.Judge.meaning judge) (g.met.J.Judge.lawful judge) c.args.case.now
+    let case = c.args.case.now in
+    none_passes (g.J.Judge.meaning judge) (g.met.J.Judge.lawful judge) (tasks_of case) (case_fair case) (starts_of case)
     c.args.order.now c.args.position c.requires.later.count c.requires.inside
     (λ place held left. c.loop-place.invariant.1 place (omega arith) held left)

@@ -1,30 +1,27 @@
-use Rattle.std.proofs.Common.{rules, [], ◌≡◌, vec_items, IfOk, ap, sym, subst, ◌∙◌}
-use Rattle.std.specs.List.{AllByRecursion as All, filter, slice_split}
-use Rattle.std.proofs.lemmas.Result.{IfOk-weaker}
-use Rattle.std.proofs.lemmas.Iterator.Consumers.{YieldsList-from_filter, YieldsList-at, map_from_collect}
-use Rattle.std.proofs.lemmas.Iterator.Splits.{YieldsList-from_slice_split}
-use Rattle.script.specs.Words.{texts, before_comment, words_after, words_of, Word, blank}
-use Rattle.script.proofs.Cutting.{cut, all_words_of, some}
+use Rattle.std.proofs.Common.{◌≡◌, ◌++◌, vec_items, sym, ap, subst, ◌∙◌, rules}
+use Rattle.std.specs.List.{AllByRecursion as All}
+use Rattle.std.proofs.lemmas.List.{append-nil}
+use Rattle.script.specs.Words.{texts, words_of, Word}
+use Rattle.script.proofs.Cutting.{word_found, no_word, all_words_of}
 use Rattle.script.proofs.line.words.Goals as goal
 
--- the parts that the chain keeps, ..
-parts : (c : goal.After-collect) → IfOk c.collect.result (λ v. texts (vec_items v) ≡ filter some (slice_split blank c.before_comment.result.now))
-parts c =
-    map_from_collect _ c.collect.ensures.ran
-    (YieldsList-from_filter _ some
-    (YieldsList-at c.filter.ensures.source (YieldsList-from_slice_split _ blank _ c.split.ensures.rest c.split.ensures.done c.split.ensures.closure (λ b r q k. search rules)))
-    c.filter.ensures.closure
-    (λ word r q k. search rules))
+pub loop-start-init : goal.loop-start-init
+loop-start-init c = search rules
 
--- .. are the words of the line
-exact : (c : goal.After-collect) → IfOk c.collect.result (λ v. texts (vec_items v) ≡ words_of c.args.line.now)
+pub loop-start-preserved : goal.loop-start-preserved
+loop-start-preserved c =
+    word_found (vec_items c.loop-start.words) _ c.split_at.result.0 c.split_at.result.1 c.loop-start.rest.now _ c.in-Some.start c.unwrap_or.result
+    c.in_ok-push.ensures.items (sym c.first_inner.ensures ∙ c.in-Some.is) (search rules) c.split_at.ensures.front c.split_at.ensures.back c.loop-start.invariant
+
+-- the words found, where nothing but blanks is left
+exact : (c : goal.In_default) → texts (vec_items c.loop-start.words) ≡ words_of c.args.line.now
 exact c =
-    IfOk-weaker c.collect.result _ _
-    (λ v e. e ∙ cut c.before_comment.result.now ∙ ap (words_after []) (c.before_comment.ensures ∙ ap before_comment c.without_end.ensures))
-    (parts c)
+    sym (append-nil (texts (vec_items c.loop-start.words)))
+    ∙ ap (λ words. texts (vec_items c.loop-start.words) ++ words) (sym (no_word c.loop-start.rest.now (sym c.first_inner.ensures ∙ search rules)))
+    ∙ c.loop-start.invariant
 
 pub returns-clause-exact : goal.returns-clause-exact
 returns-clause-exact c = exact c
 
 pub returns-clause-clean : goal.returns-clause-clean
-returns-clause-clean c = IfOk-weaker c.collect.result _ _ (λ v e. subst (All Word) (sym e) (all_words_of c.args.line.now)) (exact c)
+returns-clause-clean c = subst (All Word) (sym (exact c)) (all_words_of c.args.line.now)
