@@ -1,15 +1,15 @@
 -- Cutting a line into words.
-use Rattle.std.proofs.Common.{◌≡◌, ℕ, suc, subst, ◌+◌, ◌-◌, ◌<◌, ◌≤◌, ◌⊎◌, inl, inr, get_or, true≢false, Bool, true, false, not, cond, ◌||◌, eqb, List, [], ◌∷◌, ◌++◌, length, take, drop, Some, None, unwrap_or, sym, refl, ap, ◌∙◌, append_assoc, arith}
-use Rattle.std.specs.List.{AllByRecursion as All, position, position_or_len, slice_split, onto_first, filter, take_while}
-use Rattle.std.proofs.lemmas.List.{append-nil, drop_all, length-drop, length-take, get_or-drop, map_push, take_all}
-use Rattle.std.proofs.lemmas.List.Sums.{take_while-cons, passes_at_first, prefix_len-le-length}
+use Rattle.std.proofs.Common.{◌≡◌, ℕ, ◌+◌, ◌<◌, ◌≤◌, get_or, drop, Bool, true, false, not, cond, ◌||◌, eqb, List, [], ◌∷◌, ◌++◌, length, take, unwrap_or, sym, refl, ap, ◌∙◌, append_assoc, arith}
+use Rattle.std.specs.List.{AllByRecursion as All, between, position, slice_split, onto_first, filter, take_while}
+use Rattle.std.proofs.lemmas.List.{append-nil, at_drop_more, at_drop_all}
+use Rattle.std.proofs.lemmas.List.Edits.{between_more, between_none}
 use Rattle.std.proofs.lemmas.List.Splits.{length-slice_split}
-use Rattle.std.specs.Borrow.{Bor}
+use Rattle.std.proofs.lemmas.List.Sums.{take_while-cons}
 use Rattle.std.proofs.lemmas.Grind.{common_steps}
 use Rattle.std.proofs.ByRecursion.{All-append, All-push}
-use Rattle.std.proofs.lemmas.Bool.{cond-true, cond-false, cond_both, or_from, cases_eq}
+use Rattle.std.proofs.lemmas.Bool.{cond-true, cond-false, cond_both, or_from}
 use Rattle.std.proofs.lemmas.Bool.Decides.{nat_tests}
-use Rattle.script.specs.Words.{without_end, before_comment, blank, single, words_after, words_of, Word, texts}
+use Rattle.script.specs.Words.{without_end, before_comment, blank, single, words_after, words_of, Word}
 
 -- where a comment begins
 abbrev hash : ℕ → Bool
@@ -73,125 +73,31 @@ cut_after word (b ∷ bs) =
 pub cut : (bs : List ℕ) → filter some (slice_split blank bs) ≡ words_after [] bs
 cut bs = ap (filter some) (sym (cut_first bs)) ∙ cut_after [] bs
 
--- a byte of a word or a comment
-abbrev inner : ℕ → Bool
-inner b = not (blank b)
-
--- the first word, after the bytes of one begun, and the words after it
-word_first :
-    (word bs : List ℕ) →
-    words_after word bs ≡ single (word ++ take (position_or_len blank bs) bs) ++ words_after [] (drop (position_or_len blank bs) bs)
-word_first word [] = sym (append-nil (single (word ++ [])) ∙ ap single (append-nil word))
-word_first word (b ∷ bs) = go (word_first (word ++ (b ∷ [])) bs) (blank b) refl
-  where
-    At : ℕ → List (List ℕ)
-    At n = single (word ++ take n (b ∷ bs)) ++ words_after [] (drop n (b ∷ bs))
-
-    go :
-        words_after (word ++ (b ∷ [])) bs
-        ≡ single ((word ++ (b ∷ [])) ++ take (position_or_len blank bs) bs) ++ words_after [] (drop (position_or_len blank bs) bs) →
-        (t : Bool) → blank b ≡ t → words_after word (b ∷ bs) ≡ At (position_or_len blank (b ∷ bs))
-    go on true is =
-        let none : position_or_len blank (b ∷ bs) ≡ 0 = ap (λ t. cond (not t) (1 + position_or_len blank bs) 0) is in
-        cond-true (blank b) _ _ is
-        ∙ ap (λ front. single front ++ words_after [] bs) (sym (append-nil word))
-        ∙ ap (λ rest. single (word ++ []) ++ rest) (sym (cond-true (blank b) _ _ is))
-        ∙ sym (ap At none)
-    go on false other =
-        let is : position_or_len blank (b ∷ bs) ≡ 1 + position_or_len blank bs = ap (λ t. cond (not t) (1 + position_or_len blank bs) 0) other in
-        let more : position_or_len blank (b ∷ bs) ≡ suc (position_or_len blank bs) = omega (arith, is) in
-        cond-false (blank b) _ _ other
-        ∙ on
-        ∙ ap (λ front. single front ++ words_after [] (drop (position_or_len blank bs) bs)) (append_assoc word (b ∷ []) (take (position_or_len blank bs) bs))
-        ∙ sym (ap At more)
-
--- blanks in front part nothing
-blanks_first : (bs : List ℕ) → words_after [] bs ≡ words_after [] (drop (position_or_len inner bs) bs)
-blanks_first [] = refl
-blanks_first (b ∷ bs) = go (blanks_first bs) (blank b) refl
-  where
-    At : ℕ → List (List ℕ)
-    At n = words_after [] (drop n (b ∷ bs))
-
-    go :
-        words_after [] bs ≡ words_after [] (drop (position_or_len inner bs) bs) → (t : Bool) → blank b ≡ t →
-        words_after [] (b ∷ bs) ≡ At (position_or_len inner (b ∷ bs))
-    go on true is =
-        let one : position_or_len inner (b ∷ bs) ≡ 1 + position_or_len inner bs = ap (λ t. cond (not (not t)) (1 + position_or_len inner bs) 0) is in
-        let more : position_or_len inner (b ∷ bs) ≡ suc (position_or_len inner bs) = omega (arith, one) in
-        cond-true (blank b) _ _ is ∙ on ∙ sym (ap At more)
-    go on false other =
-        let none : position_or_len inner (b ∷ bs) ≡ 0 = ap (λ t. cond (not (not t)) (1 + position_or_len inner bs) 0) other in
-        sym (ap At none)
-
 -- a word that has a byte stands alone
-single_some : (word : List ℕ) → 0 < length word → single word ≡ word ∷ []
+pub single_some : (word : List ℕ) → 0 < length word → single word ≡ word ∷ []
 single_some [] some = absurd (omega arith)
 single_some (b ∷ word) some = refl
 
-not_true : (t : Bool) → not t ≡ true → t ≡ false
-not_true true e = sym e
-not_true false e = refl
+-- of the words found and those to come, after the word begun at start: at i stands a blank, ..
+pub word_ends : (found : List (List ℕ)) (text : List ℕ) (start i : ℕ) → i < length text → blank (get_or text i 0) ≡ true → found ++ words_after (between start i text) (drop i text) ≡ (found ++ single (between start i text)) ++ words_after (between (i + 1) (i + 1) text) (drop (i + 1) text)
+word_ends found text start i inside is =
+    at_drop_more (λ rest. found ++ words_after (between start i text) rest) text i 0 inside
+    ∙ ap (λ words. found ++ words) (cond-true _ _ _ is)
+    ∙ sym (append_assoc found (single (between start i text)) _)
+    ∙ ap (λ word. (found ++ single (between start i text)) ++ words_after word (drop (i + 1) text)) (sym (between_none text (i + 1)))
 
--- no blank stands where the first byte stands that is none
-begins : (bs : List ℕ) (i : ℕ) → position_or_len inner bs ≡ i → i < length bs → 0 < position_or_len blank (drop i bs)
-begins bs i at in_bs = go (cases_eq (position_or_len blank (drop i bs)) 0)
-  where
-    here : blank (get_or bs i 0) ≡ false
-    here =
-        let inside : inner (get_or bs i 0) ≡ true =
-        subst (λ k. inner (get_or bs k 0) ≡ true) at (passes_at_first inner bs 0 (omega (arith, at))) in
-        not_true (blank (get_or bs i 0)) inside
+-- .. or the word goes on, ..
+pub word_more : (found : List (List ℕ)) (text : List ℕ) (start i : ℕ) → i < length text → start ≤ i → blank (get_or text i 0) ≡ false → found ++ words_after (between start i text) (drop i text) ≡ found ++ words_after (between start (i + 1) text) (drop (i + 1) text)
+word_more found text start i inside begun other =
+    at_drop_more (λ rest. found ++ words_after (between start i text) rest) text i 0 inside
+    ∙ ap (λ words. found ++ words) (cond-false _ _ _ other)
+    ∙ ap (λ word. found ++ words_after word (drop (i + 1) text)) (sym (between_more text start i 0 begun inside))
 
-    go : (position_or_len blank (drop i bs) ≡ 0) ⊎ (position_or_len blank (drop i bs) ≡ 0 → ⊥) → 0 < position_or_len blank (drop i bs)
-    go (inl none) =
-        let first : blank (get_or (drop i bs) 0 0) ≡ true =
-        subst (λ k. blank (get_or (drop i bs) k 0) ≡ true) none (passes_at_first blank (drop i bs) 0 (omega (arith, length-drop i bs, none))) in
-        let same : get_or (drop i bs) 0 0 ≡ get_or bs i 0 = get_or-drop i bs 0 0 ∙ ap (λ k. get_or bs k 0) (omega arith) in
-        absurd (true≢false (sym first ∙ ap blank same ∙ here))
-    go (inr some) = omega arith
-
--- from the first byte on that is no blank, the first word goes up to the next blank, or to the end
-one_word :
-    (bs : List ℕ) (i e : ℕ) → position inner bs ≡ Some i →
-    e ≡ unwrap_or (position blank (drop i bs)) (length (drop i bs)) →
-    words_after [] bs ≡ take e (drop i bs) ∷ words_after [] (drop e (drop i bs))
-one_word bs i e first end =
-    let at : position_or_len inner bs ≡ i = grind (arith, nat_tests) in
-    let in_bs : i < length bs = grind (arith, nat_tests) in
-    let text = drop i bs in
-    let far : e ≡ position_or_len blank text = let most = prefix_len-le-length inner text in grind (arith, nat_tests) in
-    let some : 0 < length (take e text) = omega (arith, length-take e text, length-drop i bs, begins bs i at in_bs, far) in
-    blanks_first bs
-    ∙ ap (λ n. words_after [] (drop n bs)) at
-    ∙ word_first [] text
-    ∙ ap (λ n. single (take n text) ++ words_after [] (drop n text)) (sym far)
-    ∙ ap (λ front. front ++ words_after [] (drop e text)) (single_some (take e text) some)
-
--- blanks alone are no words
-pub no_word : (bs : List ℕ) → position inner bs ≡ None → words_after [] bs ≡ []
-no_word bs none =
-    let past : length bs ≤ position_or_len inner bs = grind (arith, nat_tests) in
-    blanks_first bs ∙ ap (words_after []) (drop_all (position_or_len inner bs) bs past)
-
--- the words found and those of what is left, with one word more; the slice from a place on is all that stands there
-pub word_found :
-    (found after : List (Bor (List ℕ))) (word more : Bor (List ℕ)) (rest : List ℕ) (all : List (List ℕ)) (i e : ℕ) →
-    after ≡ found ++ (word ∷ []) → position inner rest ≡ Some i →
-    e ≡ unwrap_or (position blank (take (length rest - i) (drop i rest))) (length (take (length rest - i) (drop i rest))) →
-    word.now ≡ take e (take (length rest - i) (drop i rest)) → more.now ≡ drop e (take (length rest - i) (drop i rest)) →
-    texts found ++ words_after [] rest ≡ all → texts after ++ words_after [] more.now ≡ all
-word_found found after word more rest all i e added first end is left so_far =
-    ap (λ words. texts words ++ words_after [] more.now) added
-    ∙ ap (λ words. words ++ words_after [] more.now) (map_push (λ text. text.now) found word)
-    ∙ append_assoc (texts found) (word.now ∷ []) (words_after [] more.now)
-    ∙ ap (λ word. texts found ++ (word ∷ words_after [] more.now)) (is ∙ ap (take e) whole)
-    ∙ ap (λ text. texts found ++ (take e (drop i rest) ∷ words_after [] text)) (left ∙ ap (drop e) whole)
-    ∙ ap (λ words. texts found ++ words) (sym (one_word rest i e first (end ∙ ap (λ text. unwrap_or (position blank text) (length text)) whole)))
-    ∙ so_far
-  where
-    whole : take (length rest - i) (drop i rest) ≡ drop i rest
-    whole = take_all (length rest - i) (drop i rest) (omega (arith, length-drop i rest))
+-- .. or the text ends
+pub word_last : (found : List (List ℕ)) (text : List ℕ) (start i : ℕ) → i ≡ length text → found ++ words_after (between start i text) (drop i text) ≡ found ++ single (between start (length text) text)
+word_last found text start i e =
+    at_drop_all (λ rest. found ++ words_after (between start i text) rest) text i (omega arith)
+    ∙ ap (λ j. found ++ single (between start j text)) e
 
 -- a byte that neither parts words nor begins a comment
 abbrev Inner : ℕ → Type 0

@@ -1,6 +1,6 @@
 // A line taken apart into words.
-ghost use Rattle.std.specs.Prelude.{◌≡◌, ◌==◌, not, position, IfOk};
-ghost use Rattle.script.specs.Words.{without_last, without_end, before_comment, blank, words_of, Word, texts};
+ghost use Rattle.std.specs.Prelude.{◌≡◌, ◌==◌, ◌++◌, position, OnOk, IfOk};
+ghost use Rattle.script.specs.Words.{without_last, without_end, before_comment, blank, single, words_of, Word, texts};
 ghost use Rattle.std.specs.List.{AllByRecursion};
 
 use std::alloc::{AllocError, Global};
@@ -40,33 +40,31 @@ fn is_blank(b: u8) -> bool
     b == b' ' || b == b'\t'
 }
 
-// Where the first blank stands.
-fn first_blank(text: &[u8]) -> Option<usize>
-    ensures { result ≡ position blank text.now }
+// Adds the word, unless it is empty.
+fn add<'a>(words: &mut Vec<&'a [u8]>, word: &'a [u8]) -> Result<(), AllocError>
+    ensures { OnOk result (texts words.new.items ≡ texts words.old.items ++ single word.now) }
 {
-    text.iter().position(|b| is_blank(*b))
+    if !word.is_empty() {
+        words.push(word)?;
+    }
+    Ok(())
 }
 
-// Where the first byte stands that is no blank.
-fn first_inner(text: &[u8]) -> Option<usize>
-    ensures { result ≡ position (λ b. not (blank b)) text.now }
-{
-    text.iter().position(|b| !is_blank(*b))
-}
-
-// The words of a line, whatever bytes it holds; with its end or without. A loop from word to word: parted at each blank by
-// `split`, a line of many blanks took two thirds more instructions.
+// The words of a line, whatever bytes it holds; with its end or without. A loop over its bytes: parted at each blank by
+// `split`, a line of many blanks took twice the time.
 pub fn words<'a>(heap: Global, line: &'a [u8]) -> Result<Vec<&'a [u8]>, AllocError>
     ensures exact { IfOk result (λ v. texts v.items ≡ words_of line.now) }
     ensures clean { IfOk result (λ v. AllByRecursion Word (texts v.items)) }
 {
+    let text = before_comment(without_end(line));
     let mut words = Vec::new(heap);
-    let mut rest = before_comment(without_end(line));
-    while let Some(start) = first_inner(rest) {
-        let text = &rest[start..];
-        let (word, more) = text.split_at(first_blank(text).unwrap_or(text.len()));
-        words.push(word)?;
-        rest = more;
+    let mut start = 0;
+    for (i, b) in text.iter().enumerate() {
+        if is_blank(*b) {
+            add(&mut words, &text[start..i])?;
+            start = i + 1;
+        }
     }
+    add(&mut words, &text[start..])?;
     Ok(words)
 }

@@ -1,10 +1,8 @@
-use Rattle.std.proofs.Common.{◌≡◌, [], ◌++◌, length, vec_items}
-use Rattle.script.specs.Words.{before_comment, without_end, words_after, texts}
+use Rattle.std.proofs.Common.{◌≡◌, ◌≤◌, [], ◌++◌, drop, vec_items}
+use Rattle.std.specs.List.{between}
+use Rattle.script.specs.Words.{words_after, texts}
 use Rattle.script.proofs.line.words.Given as goal
 
--- the words found, and those of what is left
-abbrev pub invariant-loop-start : goal.invariant-loop-start
-invariant-loop-start l = texts (vec_items l.words) ++ words_after [] l.rest ≡ words_after [] (before_comment (without_end l.line))
-
-abbrev pub decreases-loop-start : goal.decreases-loop-start
-decreases-loop-start l = length l.rest
+-- the words found, and those of what is left after the word begun
+abbrev pub invariant-loop-i : goal.invariant-loop-i
+invariant-loop-i l = (l.start ≤ l.i) × (texts (vec_items l.words) ++ words_after (between l.start l.i l.text) (drop l.i l.text) ≡ words_after [] l.text)
